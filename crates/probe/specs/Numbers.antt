@@ -1,0 +1,34 @@
+-- The answers of the inner layers as numbers. Assumes nothing.
+use Prim.Native.Nat.{ℕ}
+use Rattle.token.specs.declared.TokenKind.{TokenKind}
+use Rattle.token.specs.declared.Place.{Place}
+use Rattle.token.specs.declared.Lexed.{Lexed}
+use Rattle.words.specs.declared.NameTest.{NameTest}
+
+abbrev pub place-number : Place → ℕ
+place-number (Place.At at) = at
+place-number Place.Nowhere = 0
+
+abbrev pub token-number : TokenKind → ℕ
+token-number TokenKind.LParen = 1
+token-number TokenKind.RParen = 2
+token-number TokenKind.Atom = 3
+token-number TokenKind.Eof = 4
+
+abbrev pub kind-number : Lexed → ℕ
+kind-number (Lexed.Got t) = token-number (t .kind)
+kind-number (Lexed.Refused r) = 0
+
+abbrev pub start-number : Lexed → ℕ
+start-number (Lexed.Got t) = t .start
+start-number (Lexed.Refused r) = place-number (r .place)
+
+abbrev pub end-number : Lexed → ℕ
+end-number (Lexed.Got t) = t .end
+end-number (Lexed.Refused r) = place-number (r .place)
+
+-- 0 for a name, else the class of the refusal: 3 reserved, 1 malformed.
+abbrev pub test-number : NameTest → ℕ
+test-number NameTest.Name = 0
+test-number NameTest.Reserved = 3
+test-number NameTest.NotIdentifier = 1

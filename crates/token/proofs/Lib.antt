@@ -1,0 +1,3 @@
+mod Classes
+pub mod Runs
+pub mod Bounds

@@ -1,0 +1,161 @@
+// The token: layout, comments, parentheses, atoms, refused bytes and the end.
+// The port of `Lexer` in surface/parser.rs. Document 01, "The token".
+ghost use mathlib.Core.Path.{_≡_};
+ghost use mathlib.Core.Bool.{false};
+ghost use lib.ListN.{drop};
+ghost use Rattle.token.specs.Token.{byte-class, layout-end, atom-from, next-token};
+
+// What a byte is for.
+pub enum ByteClass {
+    Layout,
+    Comment,
+    LParen,
+    RParen,
+    Atom,
+    Refused,
+}
+
+pub enum TokenKind {
+    LParen,
+    RParen,
+    Atom,
+    Eof,
+}
+
+// The bytes from `start` up to `end`; the end token has none.
+pub struct Token {
+    pub kind: TokenKind,
+    pub start: usize,
+    pub end: usize,
+}
+
+pub enum Place {
+    At(usize),
+    Nowhere,
+}
+
+// Why a source is refused: document 01's number, and where.
+pub struct Refusal {
+    pub class: u8,
+    pub place: Place,
+}
+
+pub enum Lexed {
+    Got(Token),
+    Refused(Refusal),
+}
+
+pub fn byte_class(b: u8) -> ByteClass
+    ensures { λ r. ⌜ r ≡ byte-class b ⌝ }
+{
+    match b {
+        9 | 10 | 13 | 32 => ByteClass::Layout,
+        59 => ByteClass::Comment,
+        40 => ByteClass::LParen,
+        41 => ByteClass::RParen,
+        45 | 95 => ByteClass::Atom,
+        48..=57 => ByteClass::Atom,
+        65..=90 => ByteClass::Atom,
+        97..=122 => ByteClass::Atom,
+        _ => ByteClass::Refused,
+    }
+}
+
+// Where the layout that starts at `at` ends.
+pub fn skip_layout(s: &[u8], at: usize) -> usize
+    ensures { λ r. ⌜ r ≡ layout-end false at (drop at (now (s .entry))) ⌝ }
+{
+    let mut pos = at;
+    let mut comment = false;
+    while pos < s.len() {
+        let b = s[pos];
+        if comment {
+            if b == 10 {
+                comment = false;
+                pos += 1;
+            } else {
+                pos += 1;
+            }
+        } else {
+            let class = byte_class(b);
+            match class {
+                ByteClass::Layout => {
+                    pos += 1;
+                }
+                ByteClass::Comment => {
+                    comment = true;
+                    pos += 1;
+                }
+                _ => {
+                    return pos;
+                }
+            }
+        }
+    }
+    pos
+}
+
+// The atom that starts at `start`, of which the bytes before `at` are read.
+pub fn lex_atom(s: &[u8], start: usize, at: usize) -> Lexed
+    ensures { λ r. ⌜ r ≡ atom-from start at (drop at (now (s .entry))) ⌝ }
+{
+    let mut pos = at;
+    while pos < s.len() {
+        let class = byte_class(s[pos]);
+        match class {
+            ByteClass::Atom => {
+                pos += 1;
+            }
+            ByteClass::Refused => {
+                return Lexed::Refused(Refusal {
+                    class: 1,
+                    place: Place::At(pos),
+                });
+            }
+            _ => {
+                return Lexed::Got(Token {
+                    kind: TokenKind::Atom,
+                    start: start,
+                    end: pos,
+                });
+            }
+        }
+    }
+    Lexed::Got(Token {
+        kind: TokenKind::Atom,
+        start: start,
+        end: pos,
+    })
+}
+
+// The first token at or behind `at`.
+pub fn next_token(s: &[u8], at: usize) -> Lexed
+    ensures { λ r. ⌜ r ≡ next-token (now (s .entry)) at ⌝ }
+{
+    let start = skip_layout(s, at);
+    if start >= s.len() {
+        return Lexed::Got(Token {
+            kind: TokenKind::Eof,
+            start: start,
+            end: start,
+        });
+    }
+    let class = byte_class(s[start]);
+    match class {
+        ByteClass::LParen => Lexed::Got(Token {
+            kind: TokenKind::LParen,
+            start: start,
+            end: start + 1,
+        }),
+        ByteClass::RParen => Lexed::Got(Token {
+            kind: TokenKind::RParen,
+            start: start,
+            end: start + 1,
+        }),
+        ByteClass::Atom => lex_atom(s, start, start + 1),
+        _ => Lexed::Refused(Refusal {
+            class: 1,
+            place: Place::At(start),
+        }),
+    }
+}

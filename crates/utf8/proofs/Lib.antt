@@ -1,0 +1,6 @@
+mod FirstBytes
+mod OtherBytes
+mod ValidFrom
+mod Passed
+mod Mark
+pub mod Longest
