@@ -1,0 +1,127 @@
+//! Document 01's words: the reserved ones in its order, leaves, forms with term arguments, names and numerals.
+use crate::prng::Prng;
+
+pub const HEAD: &str = "(surface 0 1)(module m)";
+
+pub const RESERVED: [&str; 27] = [
+    "surface",
+    "module",
+    "postulate",
+    "transparent",
+    "opaque",
+    "ref",
+    "universe",
+    "pi",
+    "lam",
+    "app",
+    "sigma",
+    "pair",
+    "fst",
+    "snd",
+    "id",
+    "refl",
+    "j",
+    "empty",
+    "empty-elim",
+    "unit",
+    "star",
+    "unit-elim",
+    "nat",
+    "zero",
+    "succ",
+    "nat-elim",
+    "ann",
+];
+
+pub const LEAVES: [&str; 5] = ["empty", "unit", "star", "nat", "zero"];
+
+/// A form with term arguments.
+#[derive(Debug, PartialEq)]
+pub struct Form {
+    pub word: &'static str,
+    pub binds: bool,
+    pub arity: usize,
+}
+
+const fn form(word: &'static str, binds: bool, arity: usize) -> Form {
+    Form { word, binds, arity }
+}
+
+/// The first so many of FORMS bind a name.
+pub const BINDING: usize = 3;
+
+pub const FORMS: [Form; 15] = [
+    form("pi", true, 2),
+    form("sigma", true, 2),
+    form("lam", true, 1),
+    form("app", false, 2),
+    form("pair", false, 2),
+    form("fst", false, 1),
+    form("snd", false, 1),
+    form("id", false, 3),
+    form("refl", false, 1),
+    form("j", false, 6),
+    form("empty-elim", false, 2),
+    form("unit-elim", false, 3),
+    form("succ", false, 1),
+    form("nat-elim", false, 4),
+    form("ann", false, 2),
+];
+
+/// Names that look reserved, or look alike, and are ordinary.
+pub const ORDINARY_NAMES: [&str; 24] = [
+    "_",
+    "x",
+    "y",
+    "X",
+    "__",
+    "_0",
+    "x1",
+    "Nat",
+    "NAT",
+    "nat_elim",
+    "natx",
+    "na",
+    "var",
+    "global",
+    "arrow",
+    "hott_core",
+    "Surface",
+    "j_",
+    "J",
+    "i",
+    "refll",
+    "pI",
+    "star1",
+    "format",
+];
+
+/// Atoms that are no names.
+pub const NO_NAMES: [&str; 12] =
+    ["-", "--", "a-b", "-a", "a-", "0", "1a", "00", "0x", "nat-eli", "nat-elim-", "unit_-elim"];
+
+/// An identifier that is not reserved.
+pub fn name(prng: &mut Prng, length: usize) -> String {
+    const FIRST: &[u8] = b"abcxyzABCXYZ_";
+    const LATER: &[u8] = b"abcxyzABCXYZ_0189";
+    loop {
+        let mut text = String::new();
+        for at in 0..length.max(1) {
+            let from = if at == 0 { FIRST } else { LATER };
+            text.push(char::from(*prng.pick(from)));
+        }
+        if !RESERVED.contains(&text.as_str()) {
+            return text;
+        }
+    }
+}
+
+/// A numeral of a number of digits, without a leading 0 unless it is `0`.
+pub fn numeral(prng: &mut Prng, digits: usize) -> String {
+    let mut text = String::new();
+    for at in 0..digits.max(1) {
+        let least = usize::from(at == 0 && digits > 1);
+        text.push(char::from(b'0' + prng.between(least, 9) as u8));
+    }
+    text
+}

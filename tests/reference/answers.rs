@@ -1,0 +1,77 @@
+//! The Rust's answers as lines of text: loading, tokens, words, UTF-8.
+//! Only the public interface of the reference library is used, so that rows are those that a caller sees.
+mod rows;
+
+use common::tokens::{self, Kind, Token};
+use common::unicode::MARK;
+use hott_kernel::surface::{SurfaceError, SurfaceErrorClass, elaborate_surface, parse_surface};
+use hott_kernel::{Lexed, ParserParts};
+
+/// `refused C`, `refused C at P`, or document 01's listing with its lines joined by `|`.
+pub fn answer(source: &[u8]) -> String {
+    let read = match parse_surface(source) {
+        Ok(module) => module,
+        Err(error) => return refusal(&error),
+    };
+    match elaborate_surface(&read) {
+        Ok(module) => rows::listing(&read, &module),
+        Err(error) => refusal(&error),
+    }
+}
+
+fn refusal(error: &SurfaceError) -> String {
+    let class = match error.class() {
+        SurfaceErrorClass::MalformedSyntax => 1,
+        SurfaceErrorClass::UnsupportedVersion => 2,
+        SurfaceErrorClass::ReservedIdentifier => 3,
+        SurfaceErrorClass::DuplicateGlobalDeclarationName => 4,
+        SurfaceErrorClass::UnknownName => 5,
+        other => panic!("document 01 has no number for {other:?}"),
+    };
+    match error.offset() {
+        Some(offset) => format!("refused {class} at {offset}"),
+        None => format!("refused {class}"),
+    }
+}
+
+/// The first token of a source at or behind an offset, by the Rust's lexer.
+pub fn token_at(source: &str, at: usize) -> Token {
+    match ParserParts::token_at(source, at) {
+        Lexed::LParen(start) => Token::new(Kind::LParen, start),
+        Lexed::RParen(start) => Token::new(Kind::RParen, start),
+        Lexed::Atom { start, end } => Token::atom(start, end),
+        Lexed::Eof(start) => Token::new(Kind::Eof, start),
+        Lexed::Refused(start) => Token::new(Kind::Refused, start),
+    }
+}
+
+/// The tokens of a source, which is UTF-8.
+pub fn token_line(source: &[u8]) -> String {
+    let text = std::str::from_utf8(source).expect("the Rust's lexer takes UTF-8");
+    tokens::line(&tokens::stream(text.len(), |at| token_at(text, at)))
+}
+
+/// `reserved=0/1 identifier=0/1 numeral=0/1` of an atom.
+pub fn word_line(atom: &[u8]) -> String {
+    let text = std::str::from_utf8(atom).expect("an atom is ASCII");
+    format!(
+        "reserved={} identifier={} numeral={}",
+        u8::from(ParserParts::is_reserved(text)),
+        u8::from(ParserParts::is_identifier(text)),
+        u8::from(ParserParts::is_natural(text)),
+    )
+}
+
+/// The length of the longest valid beginning.
+pub fn valid_up_to(source: &[u8]) -> usize {
+    match std::str::from_utf8(source) {
+        Ok(_) => source.len(),
+        Err(error) => error.valid_up_to(),
+    }
+}
+
+/// The length of the longest valid beginning, and whether EF BB BF leads.
+pub fn utf8_line(source: &[u8]) -> String {
+    let mark = u8::from(source.starts_with(MARK));
+    format!("{} mark={mark}", valid_up_to(source))
+}

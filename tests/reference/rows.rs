@@ -1,0 +1,146 @@
+//! The rows of a module as document 01 lists them, and the agreement of surface rows with core rows.
+use hott_kernel::surface::{SurfaceModule, SurfaceTerm, SurfaceTermId};
+use hott_kernel::syntax::{Declaration, Module, Term, TermId};
+
+/// A kind's word; the count, place, name or digits of a row that has them; the children.
+struct Row<Id> {
+    word: &'static str,
+    detail: Option<String>,
+    children: Vec<Id>,
+}
+
+/// Document 01's listing with its lines joined by `|`.
+pub fn listing(read: &SurfaceModule, module: &Module) -> String {
+    let rows = core_rows(module);
+    check_rows(&surface_rows(read), &rows);
+    let mut lines = vec![format!("nodes {} declarations {}", rows.len(), module.declarations().len())];
+    for (number, row) in rows.iter().enumerate() {
+        let children = row.children.iter().map(|child| format!(" {child}"));
+        let detail = row.detail.iter().map(|detail| format!(" {detail}"));
+        lines.push(format!("{number} {}{}", row.word, detail.chain(children).collect::<String>()));
+    }
+    for (place, declaration) in module.declarations().iter().enumerate() {
+        lines.push(format!("{place} {}", declaration_line(declaration)));
+    }
+    lines.join("|")
+}
+
+fn declaration_line(declaration: &Declaration) -> String {
+    let kind = match declaration {
+        Declaration::Postulate { .. } => "postulate",
+        Declaration::Transparent { .. } => "transparent",
+        Declaration::Opaque { .. } => "opaque",
+    };
+    let body = declaration.body().map(|body| format!(" {}", body.index()));
+    let (name, ty) = (declaration.name(), declaration.ty().index());
+    format!("{kind} {name} {ty}{}", body.unwrap_or_default())
+}
+
+/// "Core row k has surface row k's kind and children .., and a universe its [digits]; ref becomes var .. or global".
+fn check_rows(surface: &[Row<usize>], core: &[Row<usize>]) {
+    assert_eq!(surface.len(), core.len(), "as many core rows as surface rows");
+    for (number, (read, resolved)) in surface.iter().zip(core).enumerate() {
+        assert_eq!(read.children, resolved.children, "children of row {number}");
+        if read.word == "ref" {
+            assert!(["var", "global"].contains(&resolved.word), "ref of row {number}");
+        } else {
+            assert_eq!(read.word, resolved.word, "kind of row {number}");
+            assert_eq!(read.detail, resolved.detail, "digits of row {number}");
+        }
+    }
+}
+
+fn core_rows(module: &Module) -> Vec<Row<usize>> {
+    let declarations = module.declarations().iter();
+    let roots = declarations.flat_map(|declaration| [Some(declaration.ty()), declaration.body()]);
+    let get = |id| core_row(module.arena().get(id).expect("a row of the arena"));
+    reached(module.arena().len(), roots.flatten().collect(), TermId::index, get)
+}
+
+fn surface_rows(module: &SurfaceModule) -> Vec<Row<usize>> {
+    let declarations = module.declarations().iter();
+    let roots = declarations.flat_map(|declaration| [Some(declaration.ty()), declaration.body()]);
+    let get = |id| surface_row(module.arena().get(id).expect("a row of the arena"));
+    reached(module.arena().len(), roots.flatten().collect(), SurfaceTermId::index, get)
+}
+
+/// The rows by number, found by walking down from types and bodies: no row is left out, none is met twice.
+fn reached<Id: Copy>(
+    count: usize,
+    mut unread: Vec<Id>,
+    index: fn(Id) -> usize,
+    get: impl Fn(Id) -> Row<Id>,
+) -> Vec<Row<usize>> {
+    let mut rows: Vec<Option<Row<usize>>> = (0..count).map(|_| None).collect();
+    while let Some(id) = unread.pop() {
+        let Row { word, detail, children } = get(id);
+        unread.extend(&children);
+        let children = children.into_iter().map(index).collect();
+        let earlier = rows[index(id)].replace(Row { word, detail, children });
+        assert!(earlier.is_none(), "row {} has two parents", index(id));
+    }
+    rows.into_iter().map(|row| row.expect("a row of some type or body")).collect()
+}
+
+fn with<Id>(word: &'static str, detail: &str) -> Row<Id> {
+    Row { word, detail: Some(detail.to_string()), children: Vec::new() }
+}
+
+fn over<Id: Copy>(word: &'static str, children: &[Id]) -> Row<Id> {
+    Row { word, detail: None, children: children.to_vec() }
+}
+
+fn core_row(term: &Term) -> Row<TermId> {
+    match term {
+        Term::Var(count) => with("var", count.as_str()),
+        Term::Global(place) => with("global", place.as_str()),
+        Term::Universe(level) => with("universe", level.as_str()),
+        Term::Pi(a, b) => over("pi", &[*a, *b]),
+        Term::Lam(a) => over("lam", &[*a]),
+        Term::App(a, b) => over("app", &[*a, *b]),
+        Term::Sigma(a, b) => over("sigma", &[*a, *b]),
+        Term::Pair(a, b) => over("pair", &[*a, *b]),
+        Term::Fst(a) => over("fst", &[*a]),
+        Term::Snd(a) => over("snd", &[*a]),
+        Term::Id(a, b, c) => over("id", &[*a, *b, *c]),
+        Term::Refl(a) => over("refl", &[*a]),
+        Term::J(a, b, c, d, e, f) => over("j", &[*a, *b, *c, *d, *e, *f]),
+        Term::Empty => over("empty", &[]),
+        Term::EmptyElim(a, b) => over("empty-elim", &[*a, *b]),
+        Term::Unit => over("unit", &[]),
+        Term::Star => over("star", &[]),
+        Term::UnitElim(a, b, c) => over("unit-elim", &[*a, *b, *c]),
+        Term::Nat => over("nat", &[]),
+        Term::Zero => over("zero", &[]),
+        Term::Succ(a) => over("succ", &[*a]),
+        Term::NatElim(a, b, c, d) => over("nat-elim", &[*a, *b, *c, *d]),
+        Term::Ann(a, b) => over("ann", &[*a, *b]),
+    }
+}
+
+fn surface_row(term: &SurfaceTerm) -> Row<SurfaceTermId> {
+    match term {
+        SurfaceTerm::Ref(name) => with("ref", name.as_str()),
+        SurfaceTerm::Universe(level) => with("universe", level.as_str()),
+        SurfaceTerm::Pi { domain, codomain, .. } => over("pi", &[*domain, *codomain]),
+        SurfaceTerm::Lam { body, .. } => over("lam", &[*body]),
+        SurfaceTerm::App(a, b) => over("app", &[*a, *b]),
+        SurfaceTerm::Sigma { domain, codomain, .. } => over("sigma", &[*domain, *codomain]),
+        SurfaceTerm::Pair(a, b) => over("pair", &[*a, *b]),
+        SurfaceTerm::Fst(a) => over("fst", &[*a]),
+        SurfaceTerm::Snd(a) => over("snd", &[*a]),
+        SurfaceTerm::Id(a, b, c) => over("id", &[*a, *b, *c]),
+        SurfaceTerm::Refl(a) => over("refl", &[*a]),
+        SurfaceTerm::J(a, b, c, d, e, f) => over("j", &[*a, *b, *c, *d, *e, *f]),
+        SurfaceTerm::Empty => over("empty", &[]),
+        SurfaceTerm::EmptyElim(a, b) => over("empty-elim", &[*a, *b]),
+        SurfaceTerm::Unit => over("unit", &[]),
+        SurfaceTerm::Star => over("star", &[]),
+        SurfaceTerm::UnitElim(a, b, c) => over("unit-elim", &[*a, *b, *c]),
+        SurfaceTerm::Nat => over("nat", &[]),
+        SurfaceTerm::Zero => over("zero", &[]),
+        SurfaceTerm::Succ(a) => over("succ", &[*a]),
+        SurfaceTerm::NatElim(a, b, c, d) => over("nat-elim", &[*a, *b, *c, *d]),
+        SurfaceTerm::Ann(a, b) => over("ann", &[*a, *b]),
+    }
+}
