@@ -1,0 +1,29 @@
+-- `frames::frame_word` meets its contract. Assumes nothing.
+use mathlib.Core.Path.{sym}
+use native.Mathlib.Omega.{arith}
+use lib.ListN.{List·getD-eq-default}
+use borrow.Author.Needs.{needs}
+use Rattle.frames.proofs.frame_word.Statement.{statement}
+use Rattle.frames.proofs.frame_word.Tie as tie
+
+mul-word-at : tie.Need-mul-word-at
+mul-word-at c = search needs
+
+add-word-at : tie.Need-add-word-at
+add-word-at c = search needs
+
+word-at-requires : tie.Need-word-at-requires
+word-at-requires c κs = search needs
+
+returns : tie.Need-returns
+returns c = search needs
+
+returns-2 : tie.Need-returns-2
+returns-2 c = sym (List·getD-eq-default (c .before .before .before .args .work .now) 0 (omega arith))
+
+returns-3 : tie.Need-returns-3
+returns-3 c = sym (List·getD-eq-default (c .before .before .args .work .now) 0 (omega arith))
+
+pub frame-word-spec : {M : Type 1} → statement M
+frame-word-spec =
+    tie.close (tie.spec mul-word-at add-word-at word-at-requires returns returns-2 returns-3)

@@ -1,0 +1,61 @@
+-- The arity of every kind and whether it has a span: the two tables, by one computed test each, and the kinds behind them. Assumes nothing.
+use Prim.Native.Nat.{ℕ, zero, suc, _+_, _≤_, _<_}
+use mathlib.Core.Path.{_≡_, refl, sym, ap, _∙_}
+use mathlib.Core.Bool.{Bool, true, false, _&&_, and-eq-true-iff}
+use mathlib.Core.List.{List, [], _∷_}
+use mathlib.Core.Option.{none}
+use native.Mathlib.Decide.{decLt}
+use native.Mathlib.Omega.{arith}
+use native.Mathlib.Nat.{add-zero, zero-add, not-suc-le-zero}
+use lib.Dec.{ltb, leb}
+use lib.ListN.{getD, replicate, getD-replicate}
+use borrow.Author.Tests.{ne-eqb, ltb-true, leb-true}
+use Rattle.terms.specs.Forms.{Form, forms, form-of-kind, arity-of, holds-span}
+
+-- The values of f at i, i + 1, .. , n of them.
+module _ {A : Type 0} (f : ℕ → A) where
+  abbrev pub values : ℕ → ℕ → List A
+  values i zero = []
+  values i (suc n) = f i ∷ values (suc i) n
+
+  value-from : (d : A) (i n k : ℕ) → k < n → getD (values i n) k d ≡ f (i + k)
+  value-from d i zero k h = absurd (not-suc-le-zero h)
+  value-from d i (suc n) zero h = ap f (sym (add-zero i))
+  value-from d i (suc n) (suc k) h = value-from d (suc i) n k (omega arith) ∙ ap f (let q : suc i + k ≡ i + suc k = omega arith in q)
+
+  -- A list that computes to the values has each at its place.
+  pub value-at : (l : List A) (d : A) (n k : ℕ) → l ≡ values 0 n → k < n → getD l k d ≡ f k
+  value-at l d n k e h = ap (λ (l : List A). getD l k d) e ∙ value-from d 0 n k h ∙ ap f (zero-add k)
+
+-- A test that every form passes.
+abbrev every : (Form → Bool) → List Form → Bool
+every p [] = true
+every p (f ∷ l) = p f && every p l
+
+no-form : (n k : ℕ) (l : List Form) → every (λ f. ltb (f .kind) n) l ≡ true → n ≤ k → form-of-kind k l ≡ none
+unfolding form-of-kind
+no-form n k [] e h = refl
+no-form n k (f ∷ l) e h =
+    let b = and-eq-true-iff (ltb (f .kind) n) (every (λ g. ltb (g .kind) n) l) .0 e in
+    rw (ne-eqb k (f .kind) (λ q. omega (arith, ltb-true (f .kind) n (b .0))), form-of-kind) (no-form n k l (b .1) h)
+
+-- No form has a kind from 25 on.
+no-kind : (k : ℕ) → 25 ≤ k → form-of-kind k forms ≡ none
+unfolding forms
+no-kind k h = no-form 25 k forms refl h
+
+pub no-arity : (k : ℕ) → 25 ≤ k → arity-of k ≡ 0
+unfolding arity-of
+no-arity k h = rw (no-kind k h, arity-of)
+
+pub no-span : (k : ℕ) → 25 ≤ k → holds-span k ≡ false
+unfolding holds-span
+no-span k h = rw (no-kind k h, holds-span)
+
+-- No term has more than six arguments.
+pub arity-at-most-six : (k : ℕ) → arity-of k ≤ 6
+unfolding forms form-of-kind arity-of
+arity-at-most-six k = elim (decLt k 25) [
+  | yes h ↦ leb-true (arity-of k) 6 (sym (value-at (λ j. leb (arity-of j) 6) (replicate 25 true) true 25 k refl h) ∙ getD-replicate 25 k true true h)
+  | no h ↦ omega (arith, no-arity k (omega arith))
+]

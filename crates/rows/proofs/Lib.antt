@@ -1,0 +1,3 @@
+pub mod Arities
+pub mod Words
+pub mod Storing

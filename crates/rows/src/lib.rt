@@ -1,0 +1,162 @@
+// Rows of eight words and declaration records of five: what each word is, and storing them at a place of a lent table.
+// The port of `TermFrameKind::arity` and `TermFrame::into_term` in surface/parser.rs. Document 01, "The module read", "The core module".
+use terms::Label;
+ghost use mathlib.Core.Path.{_≡_};
+ghost use mathlib.Core.Bool.{cond};
+ghost use mathlib.Core.List.{[], _∷_, _++_};
+ghost use lib.Dec.{eqb};
+ghost use lib.ListN.{getD, take};
+ghost use Rattle.terms.specs.Forms.{universe, arity-of, holds-span};
+ghost use Rattle.terms.specs.Rows.{row, surface-row};
+ghost use Rattle.rows.specs.Places.{has-place, stored-at};
+
+// How many arguments a term of each kind has, from kind 0 on.
+const ARITIES: [u32; 25] = [
+    0, // no kind
+    0, // var
+    0, // global
+    0, // universe
+    2, // pi
+    1, // lam
+    2, // app
+    2, // sigma
+    2, // pair
+    1, // fst
+    1, // snd
+    3, // id
+    1, // refl
+    6, // j
+    0, // empty
+    2, // empty-elim
+    0, // unit
+    0, // star
+    3, // unit-elim
+    0, // nat
+    0, // zero
+    1, // succ
+    4, // nat-elim
+    2, // ann
+    0, // ref
+];
+
+// Whether its row has the start and length of a name or numeral.
+const SPANS: [bool; 25] = [
+    false, // no kind
+    false, // var
+    false, // global
+    true, // universe
+    true, // pi
+    true, // lam
+    false, // app
+    true, // sigma
+    false, // pair
+    false, // fst
+    false, // snd
+    false, // id
+    false, // refl
+    false, // j
+    false, // empty
+    false, // empty-elim
+    false, // unit
+    false, // star
+    false, // unit-elim
+    false, // nat
+    false, // zero
+    false, // succ
+    false, // nat-elim
+    false, // ann
+    true, // ref
+];
+
+pub fn arity(kind: u32) -> u32
+    ensures { λ r. ⌜ r ≡ arity-of kind ⌝ }
+{
+    let k = kind as usize;
+    if k < 25 {
+        return ARITIES[k];
+    }
+    0
+}
+
+pub fn holds_span(kind: u32) -> bool
+    ensures { λ r. ⌜ r ≡ holds-span kind ⌝ }
+{
+    let k = kind as usize;
+    if k < 25 {
+        return SPANS[k];
+    }
+    false
+}
+
+// Argument i of the first len; 0 where there is none.
+fn arg_or_zero(args: [u32; 6], len: u32, i: usize) -> u32
+    ensures { λ r. ⌜ r ≡ getD (take len args) i 0 ⌝ }
+{
+    if i < 6 {
+        if i < len as usize {
+            return args[i];
+        }
+    }
+    0
+}
+
+// The kind, the span if the row has one, and the first len arguments.
+fn row_words(kind: u32, span: bool, start: u32, length: u32, args: [u32; 6], len: u32) -> [u32; 8]
+    ensures { λ r. ⌜ r ≡ row kind (cond span (start ∷ length ∷ []) [] ++ take len args) ⌝ }
+{
+    let a0 = arg_or_zero(args, len, 0);
+    let a1 = arg_or_zero(args, len, 1);
+    let a2 = arg_or_zero(args, len, 2);
+    let a3 = arg_or_zero(args, len, 3);
+    let a4 = arg_or_zero(args, len, 4);
+    if span {
+        return [kind, start, length, a0, a1, a2, a3, a4];
+    }
+    let a5 = arg_or_zero(args, len, 5);
+    [kind, a0, a1, a2, a3, a4, a5, 0]
+}
+
+pub fn surface_row(label: Label, args: [u32; 6], len: u32) -> [u32; 8]
+    ensures { λ r. ⌜ r ≡ surface-row (record { label = label; children = take len args }) ⌝ }
+{
+    let span = holds_span(label.kind);
+    row_words(label.kind, span, label.start, label.length, args, len)
+}
+
+// The row of a term that is kept: only a universe has a span in the core module.
+pub fn core_row(kind: u32, start: u32, length: u32, args: [u32; 6], len: u32) -> [u32; 8]
+    ensures { λ r. ⌜ r ≡ row kind (cond (eqb kind universe) (start ∷ length ∷ []) [] ++ take len args) ⌝ }
+{
+    row_words(kind, kind == 3, start, length, args, len)
+}
+
+// The row of a var with its count, or of a global with its place.
+pub fn reference_row(kind: u32, number: u32) -> [u32; 8]
+    ensures { λ r. ⌜ r ≡ row kind (number ∷ []) ⌝ }
+{
+    [kind, number, 0, 0, 0, 0, 0, 0]
+}
+
+// Stores a row at place k and answers true, or false where the table has no such place.
+pub fn store_row(table: &mut [u32], k: usize, row: [u32; 8]) -> bool
+    ensures { λ r. ⌜ r ≡ has-place 8 (now (table .entry)) k ⌝ }
+    ensures { λ r. ⌜ now (table .exit) ≡ stored-at 8 (now (table .entry)) k row ⌝ }
+{
+    if k < table.len() / 8 {
+        let at = k * 8;
+        return tables::store(table, at, &row);
+    }
+    false
+}
+
+// The same for a declaration record.
+pub fn store_record(table: &mut [u32], k: usize, record: [u32; 5]) -> bool
+    ensures { λ r. ⌜ r ≡ has-place 5 (now (table .entry)) k ⌝ }
+    ensures { λ r. ⌜ now (table .exit) ≡ stored-at 5 (now (table .entry)) k «record» ⌝ }
+{
+    if k < table.len() / 5 {
+        let at = k * 5;
+        return tables::store(table, at, &record);
+    }
+    false
+}

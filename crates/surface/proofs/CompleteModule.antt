@@ -1,0 +1,109 @@
+-- A module that the grammar derives is read, where there is room; so the grammar derives one module at most. Assumes nothing.
+use mathlib.Core.Path.{_≡_, refl, sym, ap, _∙_, subst}
+use mathlib.Core.List.{List}
+use mathlib.Core.Option.{Option, none, some}
+use mathlib.Core.Bool.{true, false, _&&_}
+use Prim.Native.Nat.{ℕ, _≤_, max}
+use native.Mathlib.Omega.{arith}
+use lib.ListN.{length}
+use Rattle.token.specs.declared.Token.{Token}
+use Rattle.words.specs.Words.{ascii, all, numeral}
+use Rattle.words.proofs.Names.{eq-same}
+use Rattle.terms.specs.Forms.{Edition, edition-0-1}
+use Rattle.terms.specs.Label.{Declaration}
+use Rattle.terms.proofs.Widths.{total}
+use Rattle.surface.specs.Text.{text}
+use Rattle.surface.specs.Grammar.{Tokens, Word, Numeral, Version, version-0-1, Head, head, Derives}
+use Rattle.surface.specs.Reader.{Position, start, done}
+use Rattle.surface.specs.Reading.{name, declarations, edition-of, supported, surface-line, module-line, head as head-reader, read-module}
+use Rattle.surface.proofs.Frames.{deepest}
+use Rattle.surface.proofs.Steps.{done-inj}
+use Rattle.surface.proofs.Shaped.{head-good}
+use Rattle.surface.proofs.Takes.{after-go, to, first-token, other-tokens, opening-takes, closing-takes, word-takes, natural-takes, name-takes}
+use Rattle.surface.proofs.CompleteDeclarations.{declarations-go}
+
+-- The head.
+zero-numeral : (s : List ℕ) (t : Token) → Word s (ascii "0") t → Numeral s t
+unfolding numeral all
+zero-numeral s t w = record { atom = w .atom; is = ap numeral (w .is) }
+
+one-numeral : (s : List ℕ) (t : Token) → Word s (ascii "1") t → Numeral s t
+unfolding numeral all
+one-numeral s t w = record { atom = w .atom; is = ap numeral (w .is) }
+
+pub version-numerals : {s : List ℕ} {a b : Token} {E : Edition} → Version s a b E → Numeral s a × Numeral s b
+version-numerals {s} {a} {b} (version-0-1 v w) = (zero-numeral s a v, one-numeral s b w)
+
+pub version-edition : {s : List ℕ} {a b : Token} {E : Edition} → Version s a b E → edition-of (text s a) (text s b) ≡ some E
+unfolding edition-of
+version-edition {s} {a} {b} (version-0-1 v w) = λ j. elim (eq-same _ _ (v .is) j && eq-same _ _ (w .is) j) as (λ _. Option Edition) [ true ↦ some edition-0-1 | false ↦ none ]
+
+supported-goes : (o : Option Edition) (E : Edition) (p : Position) → o ≡ some E → supported o p ≡ done E p
+unfolding supported
+supported-goes o E p e = ap (λ (x : Option Edition). supported x p) e
+
+-- The head is read, and what follows it is left.
+pub record HeadGoes (s : List ℕ) (p : Position) (E : Edition) (x : Token) (us : List Token) : Type 0 where
+  pub position : Position
+  pub reads : head-reader s p ≡ done (record { edition = E; name = x }) position
+  pub left : Tokens s (position .offset) us
+  pub rows : position .rows ≡ p .rows
+
+pub head-goes : {s : List ℕ} {ts us : List Token} {E : Edition} {x : Token} → Head s ts E x us → (p : Position) → Tokens s (p .offset) ts → HeadGoes s p E x us
+unfolding head-reader surface-line module-line
+head-goes {s} (head {o = o} {w = w} {v₀ = a} {v₁ = b} {c = c} {p = u} {m = m} {x = x} {d = d} {E = E} o₁ o₂ v o₅ o₆ o₇ o₈ o₉) p k₁ =
+    let k₂ = other-tokens k₁ in
+    let k₃ = other-tokens k₂ in
+    let k₄ = other-tokens k₃ in
+    let k₅ = other-tokens k₄ in
+    let k₆ = other-tokens k₅ in
+    let k₇ = other-tokens k₆ in
+    let k₈ = other-tokens k₇ in
+    let k₉ = other-tokens k₈ in
+    let n = version-numerals v in
+    record {
+      position = to p d;
+      reads =
+          after-go _ _ E (to p c) _
+          (after-go _ _ o (to p o) _ (opening-takes s p o (first-token k₁) o₁)
+          (after-go _ _ w (to p w) _ (word-takes s (ascii "surface") (to p o) w (first-token k₂) o₂)
+          (after-go _ _ a (to p a) _ (natural-takes s (to p w) a (first-token k₃) (n .0))
+          (after-go _ _ b (to p b) _ (natural-takes s (to p a) b (first-token k₄) (n .1))
+          (after-go _ _ c (to p c) _ (closing-takes s (to p b) c (first-token k₅) o₅)
+          (supported-goes (edition-of (text s a) (text s b)) E (to p c) (version-edition v)))))))
+          (after-go _ _ x (to p d) _
+          (after-go _ _ u (to p u) _ (opening-takes s (to p c) u (first-token k₆) o₆)
+          (after-go _ _ m (to p m) _ (word-takes s (ascii "module") (to p u) m (first-token k₇) o₇)
+          (after-go _ _ x (to p x) _ (name-takes E s (to p m) x (first-token k₈) o₈)
+          (after-go _ _ d (to p d) _ (closing-takes s (to p x) d (first-token k₉) o₉) refl))))
+          refl);
+      left = other-tokens k₉;
+      rows = refl;
+    }
+
+-- Enough room for the rows and the declarations, and no term with more open frames than allowed: what the grammar derives is read.
+pub record ModuleGoes (s : List ℕ) (limit room frames : ℕ) (ds : List Declaration) : Type 0 where
+  pub position : Position
+  pub reads : read-module s limit room frames start ≡ done ds position
+  pub rows : position .rows ≡ total 0 ds
+
+pub complete : (s : List ℕ) (limit room frames : ℕ) (ds : List Declaration) → Derives s ds → length ds ≤ room → deepest ds ≤ frames → total 0 ds ≤ limit → ModuleGoes s limit room frames ds
+unfolding read-module
+complete s limit room frames ds d i f h =
+    let a = head-goes (d .head) start (d .lexed) in
+    let g = declarations-go (d .edition) s (head-good (d .head)) limit frames (d .declarations) room (a .position) (a .left) i f (subst (λ (m : ℕ). total m ds ≤ limit) (sym (a .rows)) h) in
+    record {
+      position = g .position;
+      reads = after-go _ _ (record { edition = d .edition; name = d .name }) (a .position) _ (a .reads) (g .reads);
+      rows = g .rows ∙ ap (λ (m : ℕ). total m ds) (a .rows);
+    }
+
+-- The grammar derives one module at most.
+pub unique : (s : List ℕ) (ds es : List Declaration) → Derives s ds → Derives s es → ds ≡ es
+unique s ds es d e =
+    let n = max (length ds) (length es) in
+    let f = max (deepest ds) (deepest es) in
+    let r = max (total 0 ds) (total 0 es) in
+    let a = complete s r n f ds d (omega arith) (omega arith) (omega arith) in
+    let b = complete s r n f es e (omega arith) (omega arith) (omega arith) in
+    done-inj (sym (a .reads) ∙ b .reads) .0

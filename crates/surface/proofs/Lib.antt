@@ -1,0 +1,15 @@
+pub mod Starred
+pub mod Steps
+pub mod Takes
+pub mod Shaped
+pub mod Frames
+pub mod Sound
+pub mod SoundDeclarations
+pub mod SoundModule
+pub mod Complete
+pub mod CompleteDeclarations
+pub mod CompleteModule
+pub mod Acceptance
+pub mod Demand
+pub mod Points
+pub mod KeptLengths

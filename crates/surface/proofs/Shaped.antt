@@ -1,0 +1,97 @@
+-- What the grammar derives has the shape of a module: each term has as many arguments as its kind wants. Assumes nothing.
+use mathlib.Core.Path.{_≡_, refl, sym, ap, _∙_, subst}
+use mathlib.Core.List.{List, map}
+use mathlib.Core.Bool.{Bool, true, _&&_, and-eq-true-iff}
+use Prim.Native.Nat.{ℕ, suc, _≤_}
+use native.Mathlib.Decide.{ℕ-discrete}
+use native.Mathlib.Omega.{arith}
+use lib.Dec.{leb, ltb, eqb}
+use borrow.Author.Tests.{leb-true, eqb-true}
+use Rattle.token.specs.declared.Token.{Token}
+use Rattle.terms.specs.Forms.{Shape, alone, with-name, with-numeral, binding, plain, Form, forms, Edition, edition-0-1, form-of-kind, arity-of}
+use Rattle.terms.specs.Tree.{Forest, relabel}
+use Rattle.terms.specs.Label.{Label, Declaration, named, named-declaration}
+use Rattle.terms.proofs.Cells.{count, count-relabel}
+use Rattle.terms.proofs.FormTable.{every, of-word}
+use Rattle.terms.proofs.NamedModule.{Shaped, ShapedModule}
+use Rattle.surface.specs.Text.{text}
+use Rattle.surface.specs.Grammar.{Tag, Terms, no-term, leaf-term, ref-term, universe-term, binding-term, plain-term, Declarations, no-declaration, postulate, transparent, opaque, Version, version-0-1, Head, head, Derives}
+
+-- A leaf has no argument, and what opens a frame has some.
+abbrev pub counts : Shape → ℕ → Bool
+counts alone n = eqb n 0
+counts with-name n = eqb n 0
+counts with-numeral n = eqb n 0
+counts binding n = ltb 0 n
+counts plain n = ltb 0 n
+
+-- That is so of a form, its kind is no core kind, and it is the form of its kind.
+abbrev pub good-form : Form → Bool
+good-form f = counts (f .shape) (f .arity) && (leb 3 (f .kind) && eqb (arity-of (f .kind)) (f .arity))
+
+pub record Good (f : Form) : Type 0 where
+  pub counted : counts (f .shape) (f .arity) ≡ true
+  pub low : 3 ≤ f .kind
+  pub arities : arity-of (f .kind) ≡ f .arity
+
+good-is : (f : Form) → good-form f ≡ true → Good f
+good-is f e =
+    let a = and-eq-true-iff (counts (f .shape) (f .arity)) _ .0 e in
+    let b = and-eq-true-iff (leb 3 (f .kind)) _ .0 (a .1) in
+    record { counted = a .0; low = leb-true 3 (f .kind) (b .0); arities = eqb-true (arity-of (f .kind)) (f .arity) (b .1) }
+
+-- An edition whose forms are all good.
+abbrev pub GoodEdition : Edition → Type 0
+GoodEdition E = every good-form (E .forms) ≡ true
+
+good-0-1 : GoodEdition edition-0-1
+unfolding edition-0-1 forms arity-of form-of-kind
+good-0-1 = refl
+
+-- Each edition that a head can name is.
+pub version-good : {s : List ℕ} {v₀ v₁ : Token} {E : Edition} → Version s v₀ v₁ E → GoodEdition E
+version-good (version-0-1 a b) = good-0-1
+
+pub head-good : {s : List ℕ} {ts us : List Token} {E : Edition} {x : Token} → Head s ts E x us → GoodEdition E
+head-good (head o w v c p m x d) = version-good v
+
+-- n terms are n.
+pub terms-count : {E : Edition} {s : List ℕ} {n : ℕ} {ts us : List Token} {f : Forest Label} → Terms E s n ts f us → count f ≡ n
+terms-count no-term = refl
+terms-count (leaf-term g k) = ap suc (terms-count k)
+terms-count (ref-term o g x c k) = ap suc (terms-count k)
+terms-count (universe-term o g x c k) = ap suc (terms-count k)
+terms-count (binding-term o g x a c k) = ap suc (terms-count k)
+terms-count (plain-term o g a c k) = ap suc (terms-count k)
+
+pub tag-good : (E : Edition) (s : List ℕ) → GoodEdition E → (f : Form) (c : Shape) (t : Token) → Tag E s f c t → Good f
+tag-good E s good f c t g = good-is f (of-word good-form (text s t) (E .forms) f good (g .is))
+
+pub tag-counts : (E : Edition) (s : List ℕ) → GoodEdition E → (f : Form) (c : Shape) (t : Token) → Tag E s f c t → counts c (f .arity) ≡ true
+tag-counts E s good f c t g = subst (λ (x : Shape). counts x (f .arity) ≡ true) (g .shape) (tag-good E s good f c t g .counted)
+
+-- Each term has as many arguments as its kind wants.
+module _ (E : Edition) (s : List ℕ) (good : GoodEdition E) where
+  no-arguments : (f : Form) (c : Shape) (t : Token) → Tag E s f c t → counts c (f .arity) ≡ eqb (f .arity) 0 → 0 ≡ arity-of (f .kind)
+  no-arguments f c t g e = omega (arith, tag-good E s good f c t g .arities, eqb-true (f .arity) 0 (sym e ∙ tag-counts E s good f c t g))
+
+  args-many : (f : Form) (c : Shape) (t : Token) (a : Forest Label) → Tag E s f c t → count a ≡ f .arity → count (relabel (named s) a) ≡ arity-of (f .kind)
+  args-many f c t a g e = count-relabel (named s) a ∙ e ∙ sym (tag-good E s good f c t g .arities)
+
+  pub terms-shaped : {n : ℕ} {ts us : List Token} {f : Forest Label} → Terms E s n ts f us → Shaped (relabel (named s) f)
+  terms-shaped no-term = tt
+  terms-shaped (leaf-term {t = t} {f = f} g k) = let w = tag-good E s good f alone t g in (w .low, no-arguments f alone t g refl, tt, terms-shaped k)
+  terms-shaped (ref-term {t = t} {f = f} o g x c k) = let w = tag-good E s good f with-name t g in (w .low, no-arguments f with-name t g refl, tt, terms-shaped k)
+  terms-shaped (universe-term {t = t} {f = f} o g x c k) = let w = tag-good E s good f with-numeral t g in (w .low, no-arguments f with-numeral t g refl, tt, terms-shaped k)
+  terms-shaped (binding-term {t = t} {a = a} {f = f} o g x d c k) = let w = tag-good E s good f binding t g in (w .low, args-many f binding t a g (terms-count d), terms-shaped d, terms-shaped k)
+  terms-shaped (plain-term {t = t} {a = a} {f = f} o g d c k) = let w = tag-good E s good f plain t g in (w .low, args-many f plain t a g (terms-count d), terms-shaped d, terms-shaped k)
+
+  pub declarations-shaped : {ts : List Token} {ds : List Declaration} → Declarations E s ts ds → ShapedModule (map (named-declaration s) ds)
+  unfolding ℕ-discrete
+  declarations-shaped no-declaration = tt
+  declarations-shaped (postulate o w x d c k) = (refl, terms-shaped d, declarations-shaped k)
+  declarations-shaped (transparent o w x d c k) = (refl, terms-shaped d, declarations-shaped k)
+  declarations-shaped (opaque o w x d c k) = (refl, terms-shaped d, declarations-shaped k)
+
+pub shaped : (s : List ℕ) (ds : List Declaration) → Derives s ds → ShapedModule (map (named-declaration s) ds)
+shaped s ds d = declarations-shaped (d .edition) s (head-good (d .head)) (d .declarations)

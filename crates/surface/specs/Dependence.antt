@@ -1,0 +1,40 @@
+-- Document 01, "The core module" and refusal 12: the dependence question about a source. Assumes nothing.
+use mathlib.Core.Path.{_≡_}
+use mathlib.Core.List.{List, [], _∷_}
+use mathlib.Core.Bool.{_&&_}
+use Prim.Native.Nat.{ℕ}
+use lib.Dec.{ltb}
+use lib.ListN.{length}
+use Rattle.terms.specs.Label.{Declaration}
+use Rattle.terms.specs.Resolution.{resolve-module}
+use Rattle.terms.specs.Dependence.{Shows, Depends}
+use Rattle.surface.specs.declared.Dependence.{Dependence}
+use Rattle.surface.specs.declared.Dependence.the-variants.{Yes, No, Refused}
+use Rattle.surface.specs.Reader.{start, Result, done, refused, Reader, _>>=_, _>>_, pure, require, nowhere}
+use Rattle.surface.specs.Loading.{Lengths, loading, Outcome, outcome, Report, report-refusal}
+
+-- "The question loads the source first", "12 dependence asked of a place that is no declaration, nowhere, after loading".
+unfoldable pub asking : List ℕ → Lengths → ℕ → ℕ → Reader (List Declaration)
+asking s z i j = do
+  ds ← loading s z
+  require (ltb i (length ds) && ltb j (length ds)) (nowhere 12)
+  pure ds
+
+-- "a yes or a no leaves the tables as loading does"; after a refusal, 12 included, they are all 0.
+unfoldable pub ask : List ℕ → Lengths → ℕ → ℕ → Outcome
+ask s z i j = outcome s z (asking s z i j start)
+
+-- What is promised of the answer. "Only the row shown by dependence is left free".
+abbrev pub Answers : List ℕ → ℕ → ℕ → Result (List Declaration) → Dependence → Type 0
+Answers s i j (refused r) (Refused q) = q ≡ r
+Answers s i j (refused r) (Yes k) = ⊥
+Answers s i j (refused r) No = ⊥
+Answers s i j (done ds p) (Refused q) = ⊥
+Answers s i j (done ds p) (Yes k) = Shows (resolve-module s [] ds) i j k
+Answers s i j (done ds p) No = ¬ Depends (resolve-module s [] ds) i j
+
+-- Document 01's number and values for each case of the answer: a yes has its row, a refusal its class, and its offset if it has one.
+abbrev pub report-dependence : Dependence → Report
+report-dependence (Yes row) = record { number = 0; values = row ∷ [] }
+report-dependence No = record { number = 0; values = [] }
+report-dependence (Refused r) = report-refusal r

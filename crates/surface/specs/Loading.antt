@@ -1,0 +1,107 @@
+-- Document 01, "When nothing is loaded": the answer and the four tables, from a source and the tables' lengths. Assumes nothing.
+use mathlib.Core.List.{List, [], _∷_}
+use mathlib.Core.Option.{Option, none, some}
+use mathlib.Core.Bool.{not}
+use Prim.Native.Nat.{ℕ, _/_}
+use lib.Dec.{leb, eqb}
+use lib.ListN.{length}
+use Rattle.token.specs.declared.Place.{Place}
+use Rattle.token.specs.declared.Place.the-variants.{At, Nowhere}
+use Rattle.token.specs.declared.Refusal.{Refusal}
+use Rattle.utf8.specs.Utf8.{valid-length, byte-order-mark}
+use Rattle.terms.specs.Label.{Declaration}
+use Rattle.terms.specs.Resolution.{RefusedName, first-refused, resolve-module}
+use Rattle.terms.specs.Rows.{pad, joined, surface-rows, core-rows, declaration-records}
+use Rattle.surface.specs.declared.Answer.{Answer}
+use Rattle.surface.specs.declared.Answer.the-variants.{Loaded, Refused}
+use Rattle.surface.specs.Reader.{start, Result, done, refused, Reader, _>>=_, _>>_, pure, refuse, position, require, nowhere, at-offset}
+use Rattle.surface.specs.Reading.{read-module}
+
+-- The lengths of the lent tables in words.
+pub record Lengths : Type 0 where
+  pub surface : ℕ
+  pub core : ℕ
+  pub declarations : ℕ
+  pub work : ℕ
+
+-- "7 more than 512 frames open in one term"
+abbrev pub frame-limit : ℕ
+frame-limit = 512
+
+-- "Order: 11; 6; not UTF-8 (1 at the length of the longest valid beginning); leading EF BB BF (1 at 0); then 1, 2, 3, 7, 8, 9 by reading
+-- order": what `parse_surface` does.
+-- "8 surface row table (words divided by 8, rounded down)", "9 declaration list (words divided by 5, rounded down)",
+-- "11 work area under 16,384 words", "6 source over 65,535 bytes".
+unfoldable pub parsing : List ℕ → Lengths → Reader (List Declaration)
+parsing s z = do
+  require (leb 16384 (z .work)) (nowhere 11)
+  require (leb (length s) 65535) (nowhere 6)
+  require (eqb (valid-length s) (length s)) (at-offset 1 (valid-length s))
+  require (not (byte-order-mark s)) (at-offset 1 0)
+  read-module s (z .surface / 8) (z .declarations / 5) frame-limit
+
+-- ".. 10": all that comes before names are looked at. "10 core table has fewer rows than were read"
+unfoldable pub reading : List ℕ → Lengths → Reader (List Declaration)
+reading s z = do
+  ds ← parsing s z
+  p ← position
+  require (leb (p .rows) (z .core / 8)) (nowhere 10)
+  pure ds
+
+-- "4 declaration name used before, nowhere", "5 unknown name, nowhere": the name itself is dropped.
+abbrev pub accept : Option RefusedName → Reader (Unit {0})
+accept none = pure tt
+accept (some r) = refuse (nowhere (r .class))
+
+-- ".. 10; then declarations in order"
+unfoldable pub loading : List ℕ → Lengths → Reader (List Declaration)
+loading s z = do
+  ds ← reading s z
+  accept (first-refused s [] ds)
+  pure ds
+
+-- What a call leaves: its answer, and the four tables.
+pub record Outcome : Type 0 where
+  pub answer : Answer
+  pub surface : List ℕ
+  pub core : List ℕ
+  pub declarations : List ℕ
+  pub work : List ℕ
+
+-- "After every refusal, 12 included, the row tables, declaration list and work area are all 0; after acceptance unused rows, unused
+-- records, words left over behind the last whole row or record, and the work area are 0."
+abbrev pub outcome : List ℕ → Lengths → Result (List Declaration) → Outcome
+outcome s z (refused r) = record {
+  answer = Refused r;
+  surface = pad (z .surface) [];
+  core = pad (z .core) [];
+  declarations = pad (z .declarations) [];
+  work = pad (z .work) [];
+}
+outcome s z (done ds p) = record {
+  answer = Loaded (p .rows) (length ds);
+  surface = pad (z .surface) (joined (surface-rows 0 ds));
+  core = pad (z .core) (joined (core-rows 0 (resolve-module s [] ds)));
+  declarations = pad (z .declarations) (joined (declaration-records 0 (resolve-module s [] ds)));
+  work = pad (z .work) [];
+}
+
+unfoldable pub load : List ℕ → Lengths → Outcome
+load s z = outcome s z (loading s z start)
+
+-- Document 01's number and values for each case of an answer: 0 and the counts of rows and declarations for acceptance;
+-- for a refusal its class, and its offset if it has one.
+pub record Report : Type 0 where
+  pub number : ℕ
+  pub values : List ℕ
+
+abbrev pub offsets : Place → List ℕ
+offsets (At p) = p ∷ []
+offsets Nowhere = []
+
+abbrev pub report-refusal : Refusal → Report
+report-refusal r = record { number = r .class; values = offsets (r .place) }
+
+abbrev pub report : Answer → Report
+report (Loaded rows declarations) = record { number = 0; values = rows ∷ declarations ∷ [] }
+report (Refused r) = report-refusal r

@@ -1,0 +1,37 @@
+-- Tokens: their bytes, their kinds, and what is kept of a term. Assumes nothing.
+use mathlib.Core.List.{List}
+use mathlib.Core.Bool.{Bool, true, false}
+use Prim.Native.Nat.{ℕ, _-_}
+use Rattle.token.specs.declared.TokenKind.{TokenKind}
+use Rattle.token.specs.declared.Token.{Token}
+use Rattle.terms.specs.Forms.{Form}
+use Rattle.terms.specs.Label.{Name, part, Label}
+
+abbrev pub text : List ℕ → Token → Name
+text s t = part s (t .start) (t .end - t .start)
+
+-- The label of a term of a form, with its name, numeral or binder x, and its first byte's offset.
+abbrev pub label-with : Form → Token → ℕ → Label
+label-with f x offset = record { kind = f .kind; start = x .start; length = x .end - x .start; offset = offset }
+
+-- The same where the form has no such atom.
+abbrev pub label-alone : Form → ℕ → Label
+label-alone f offset = record { kind = f .kind; start = 0; length = 0; offset = offset }
+
+abbrev pub is-open : TokenKind → Bool
+is-open TokenKind.LParen = true
+is-open TokenKind.RParen = false
+is-open TokenKind.Atom = false
+is-open TokenKind.Eof = false
+
+abbrev pub is-close : TokenKind → Bool
+is-close TokenKind.LParen = false
+is-close TokenKind.RParen = true
+is-close TokenKind.Atom = false
+is-close TokenKind.Eof = false
+
+abbrev pub is-atom : TokenKind → Bool
+is-atom TokenKind.LParen = false
+is-atom TokenKind.RParen = false
+is-atom TokenKind.Atom = true
+is-atom TokenKind.Eof = false

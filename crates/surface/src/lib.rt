@@ -1,0 +1,15 @@
+// From a source to its module, and what loading it leaves: the answers, with their definitions and theorems.
+use token::Refusal;
+
+// The answer of loading: the counts of rows and of declarations, or the refusal.
+pub enum Answer {
+    Loaded { rows: usize, declarations: usize },
+    Refused(Refusal),
+}
+
+// The answer of the dependence question: a row that shows it, none, or the refusal.
+pub enum Dependence {
+    Yes { row: usize },
+    No,
+    Refused(Refusal),
+}

@@ -1,0 +1,3 @@
+mod Clearing
+pub mod Storing
+pub mod Stored

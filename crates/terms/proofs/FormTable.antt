@@ -1,0 +1,93 @@
+-- The table of forms: what holds of each line holds of the form of a word and of a kind. Assumes nothing.
+use mathlib.Core.Path.{_≡_, refl, subst}
+use mathlib.Core.List.{List, [], _∷_, map}
+use mathlib.Core.Option.{Option, none, some}
+use mathlib.Core.Bool.{Bool, true, false, _&&_, cond, and-eq-true-iff}
+use Prim.Native.Nat.{ℕ, zero, suc, _≤_}
+use native.Mathlib.Omega.{arith}
+use lib.Dec.{leb, eqb}
+use borrow.Author.Tests.{leb-true}
+use Rattle.words.specs.Words.{ascii, same-bytes}
+use Rattle.terms.specs.Forms.{Shape, alone, with-name, with-numeral, binding, plain, Form, forms, universe, ref, form-of-word, form-of-kind, arity-of}
+use Rattle.terms.proofs.Names.{none-some, some-inj}
+
+-- Each form of a list passes a test.
+abbrev pub every : (Form → Bool) → List Form → Bool
+every p [] = true
+every p (f ∷ l) = p f && every p l
+
+module _ (p : Form → Bool) where
+  step : (h f : Form) (l : List Form) (x : Option Form) (b : Bool) → every p (h ∷ l) ≡ true → (every p l ≡ true → x ≡ some f → p f ≡ true)
+      → elim b as (λ _. Option Form) [ true ↦ some h | false ↦ x ] ≡ some f → p f ≡ true
+  step h f l x true g ih e = subst (λ (y : Form). p y ≡ true) (some-inj e) (and-eq-true-iff (p h) (every p l) .0 g .0)
+  step h f l x false g ih e = ih (and-eq-true-iff (p h) (every p l) .0 g .1) e
+
+  pub of-word : (w : List ℕ) (l : List Form) (f : Form) → every p l ≡ true → form-of-word w l ≡ some f → p f ≡ true
+  unfolding form-of-word
+  of-word w [] f g e = none-some e
+  of-word w (h ∷ l) f g e = step h f l (form-of-word w l) (same-bytes w (h .word)) g (of-word w l f) e
+
+  pub of-kind : (k : ℕ) (l : List Form) (f : Form) → every p l ≡ true → form-of-kind k l ≡ some f → p f ≡ true
+  unfolding form-of-kind
+  of-kind k [] f g e = none-some e
+  of-kind k (h ∷ l) f g e = step h f l (form-of-kind k l) (eqb k (h .kind)) g (of-kind k l f) e
+
+-- No form has more than six arguments.
+all-small : every (λ f. leb (f .arity) 6) forms ≡ true
+unfolding forms
+all-small = refl
+
+pub arity-small : (k : ℕ) → arity-of k ≤ 6
+unfolding arity-of
+arity-small k = go (form-of-kind k forms) refl
+  where
+    go : (o : Option Form) → form-of-kind k forms ≡ o → elim o as (λ _. ℕ) [ none ↦ 0 | some f ↦ f .arity ] ≤ 6
+    go none e = omega arith
+    go (some f) e = leb-true (f .arity) 6 (of-kind (λ f. leb (f .arity) 6) k forms f all-small e)
+
+-- What is compared or replaced by its atom has no arguments.
+pub arity-universe : arity-of universe ≡ 0
+unfolding arity-of form-of-kind forms
+arity-universe = refl
+
+pub arity-ref : arity-of ref ≡ 0
+unfolding arity-of form-of-kind forms
+arity-ref = refl
+
+-- The table against document 01's other sentence: "Kinds: .. universe 3, pi 4, lam 5, .. ann 23, ref 24".
+abbrev word-of-kind : ℕ → List ℕ
+word-of-kind k = elim (form-of-kind k forms) [ none ↦ [] | some f ↦ f .word ]
+
+abbrev words-from : ℕ → ℕ → List (List ℕ)
+words-from k zero = []
+words-from k (suc n) = word-of-kind k ∷ words-from (suc k) n
+
+pub kinds-in-order : words-from 3 22 ≡
+    ascii "universe" ∷ ascii "pi" ∷ ascii "lam" ∷ ascii "app" ∷ ascii "sigma" ∷ ascii "pair" ∷ ascii "fst" ∷ ascii "snd" ∷ ascii "id" ∷
+    ascii "refl" ∷ ascii "j" ∷ ascii "empty" ∷ ascii "empty-elim" ∷ ascii "unit" ∷ ascii "star" ∷ ascii "unit-elim" ∷ ascii "nat" ∷
+    ascii "zero" ∷ ascii "succ" ∷ ascii "nat-elim" ∷ ascii "ann" ∷ ascii "ref" ∷ []
+unfolding form-of-kind forms
+kinds-in-order = refl
+
+-- "One argument: `fst snd refl succ`; two: `app pair empty-elim ann`; three: `id unit-elim`; four: `nat-elim`; six: `j`."
+abbrev with-arguments : ℕ → List Form → List (List ℕ)
+with-arguments n [] = []
+with-arguments n (f ∷ l) = cond (is-plain (f .shape) && eqb (f .arity) n) (f .word ∷ with-arguments n l) (with-arguments n l)
+  where
+    is-plain : Shape → Bool
+    is-plain alone = false
+    is-plain with-name = false
+    is-plain with-numeral = false
+    is-plain binding = false
+    is-plain plain = true
+
+pub words-by-arity : map (λ n. with-arguments n forms) (1 ∷ 2 ∷ 3 ∷ 4 ∷ 5 ∷ 6 ∷ []) ≡
+    (ascii "fst" ∷ ascii "snd" ∷ ascii "refl" ∷ ascii "succ" ∷ []) ∷
+    (ascii "app" ∷ ascii "pair" ∷ ascii "empty-elim" ∷ ascii "ann" ∷ []) ∷
+    (ascii "id" ∷ ascii "unit-elim" ∷ []) ∷
+    (ascii "nat-elim" ∷ []) ∷
+    [] ∷
+    (ascii "j" ∷ []) ∷
+    []
+unfolding forms
+words-by-arity = refl

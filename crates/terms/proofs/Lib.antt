@@ -1,0 +1,16 @@
+pub mod Mistaken
+pub mod Names
+pub mod FormTable
+pub mod Cells
+pub mod Binders
+pub mod NamedCore
+pub mod Indices
+pub mod Bound
+pub mod CoreRows
+pub mod NamedModule
+pub mod SameContents
+pub mod Spans
+pub mod FirstRefused
+pub mod Tables
+pub mod Widths
+pub mod Depends

@@ -1,0 +1,48 @@
+-- Document 01, "Plausible and mistaken", of scope: what small terms become, computed by the definitions. Assumes nothing.
+use mathlib.Core.Path.{_≡_, refl}
+use mathlib.Core.List.{List, [], _∷_, map}
+use Prim.Native.Nat.{ℕ}
+use Rattle.words.specs.Words.{ascii, same-bytes}
+use Rattle.terms.specs.Forms.{pi, lam, ref}
+use Rattle.terms.specs.Tree.{Forest, nil, node, cells}
+use Rattle.terms.specs.Label.{Name, Label}
+use Rattle.terms.specs.Resolution.{find, core-of, resolve}
+use Rattle.terms.specs.Rows.{row, core-row}
+
+-- The names of the terms below: `x` at offset 0 and `_` at offset 1.
+abbrev source : List ℕ
+source = ascii "x_"
+
+abbrev at-x : ℕ → Forest Label → Forest Label → Forest Label
+at-x k a r = node (record { kind = k; start = 0; length = 1; offset = 0 }) a r
+
+abbrev at-blank : ℕ → Forest Label → Forest Label → Forest Label
+at-blank k a r = node (record { kind = k; start = 1; length = 1; offset = 0 }) a r
+
+abbrev nat : Forest Label → Forest Label
+nat r = node (record { kind = 19; start = 0; length = 0; offset = 0 }) nil r
+
+-- A term, the names declared before it, and its core rows.
+pub record Scoped : Type 0 where
+  pub globals : List Name
+  pub term : Forest Label
+  pub rows : List (List ℕ)
+
+abbrev scoped : List Name → Forest Label → List (List ℕ) → Scoped
+scoped g t l = record { globals = g; term = t; rows = l }
+
+abbrev pub small-terms : List Scoped
+small-terms =
+    -- (pi x (ref x) (ref x)) behind a declaration x: the binder is not visible in its own domain, and counts start at 0
+    scoped (ascii "x" ∷ []) (at-x pi (at-x ref nil (at-x ref nil nil)) nil) (row 2 (0 ∷ []) ∷ row 1 (0 ∷ []) ∷ row 4 (0 ∷ 1 ∷ []) ∷ []) ∷
+    -- (pi _ nat (ref _)): `_` is an ordinary name
+    scoped [] (at-blank pi (nat (at-blank ref nil nil)) nil) (row 19 [] ∷ row 1 (0 ∷ []) ∷ row 4 (0 ∷ 1 ∷ []) ∷ []) ∷
+    -- (lam x (lam x (ref x))): the innermost binds
+    scoped [] (at-x lam (at-x lam (at-x ref nil nil) nil) nil) (row 1 (0 ∷ []) ∷ row 5 (0 ∷ []) ∷ row 5 (1 ∷ []) ∷ []) ∷
+    -- (lam x (lam _ (ref x))) behind a declaration x: a local hides it, and the binder between counts
+    scoped (ascii "x" ∷ []) (at-x lam (at-blank lam (at-x ref nil nil) nil) nil) (row 1 (1 ∷ []) ∷ row 5 (0 ∷ []) ∷ row 5 (1 ∷ []) ∷ []) ∷
+    []
+
+pub small-cores : map (λ t. map core-row (cells 0 (resolve source (λ i. []) (t .globals) (t .term)))) small-terms ≡ map (λ t. t .rows) small-terms
+unfolding same-bytes find core-of
+small-cores = refl

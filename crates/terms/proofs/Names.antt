@@ -1,0 +1,58 @@
+-- Names in a list: where a name is found. Assumes nothing.
+use mathlib.Core.Path.{_≡_, refl, sym, ap, _∙_}
+use mathlib.Core.List.{List, [], _∷_}
+use mathlib.Core.Option.{Option, none, some}
+use mathlib.Core.Bool.{Bool, true, false}
+use Prim.Native.Nat.{ℕ, zero, suc}
+use native.Mathlib.Omega.{arith}
+use Rattle.words.specs.Words.{same-bytes}
+use Rattle.words.proofs.Names.{eq-same, same-eq, same-ne, ne-same}
+use Rattle.terms.specs.Label.{Name}
+use Rattle.terms.specs.Resolution.{next-number, find}
+
+pub none-some : {A B : Type 0} {a : A} → _≡_ {A = Option A} none (some a) → B
+none-some {A} {B} {a} e = let z : _≡_ {A = ℕ} 0 1 = cc in absurd (omega arith)
+
+pub some-inj : {A : Type 0} {a b : A} → _≡_ {A = Option A} (some a) (some b) → a ≡ b
+some-inj e = cc
+
+-- Whether two names are equal.
+pub same? : (x y : Name) → Dec (x ≡ y)
+same? x y = go (same-bytes x y) refl
+  where
+    go : (b : Bool) → same-bytes x y ≡ b → Dec (x ≡ y)
+    go true e = yes (same-eq x y e)
+    go false e = no (same-ne x y e)
+
+pub find-yes : (x y : Name) (l : List Name) → x ≡ y → find x (y ∷ l) ≡ some zero
+unfolding find
+find-yes x y l e = rw (eq-same x y e, find)
+
+pub find-no : (x y : Name) (l : List Name) → ¬ (x ≡ y) → find x (y ∷ l) ≡ next-number (find x l)
+unfolding find
+find-no x y l e = rw (ne-same x y e, find)
+
+pub not-first : (o : Option ℕ) → next-number o ≡ some zero → ⊥
+not-first none e = none-some e
+not-first (some i) e = let z : suc i ≡ zero = cc in omega arith
+
+pub one-less : (o : Option ℕ) (i : ℕ) → next-number o ≡ some (suc i) → o ≡ some i
+one-less none i e = none-some e
+one-less (some j) i e = let z : suc j ≡ suc i = cc in ap {B = Option ℕ} some (omega arith)
+
+pub still-none : (o : Option ℕ) → next-number o ≡ none → o ≡ none
+still-none none e = refl
+still-none (some i) e = none-some (sym e)
+
+-- Of one list, what is found at one number is one name.
+pub find-inj : (x y : Name) (l : List Name) (i : ℕ) → find x l ≡ some i → find y l ≡ some i → x ≡ y
+unfolding find
+find-inj x y [] i p q = none-some p
+find-inj x y (z ∷ l) i p q = go (λ i. find-inj x y l i) (same? x z) (same? y z) i p q
+  where
+    go : ((i : ℕ) → find x l ≡ some i → find y l ≡ some i → x ≡ y) → Dec (x ≡ z) → Dec (y ≡ z) → (i : ℕ) → find x (z ∷ l) ≡ some i → find y (z ∷ l) ≡ some i → x ≡ y
+    go ih (yes a) (yes b) i p q = cc
+    go ih (yes a) (no b) i p q = absurd (not-first (find y l) (cc (find-yes x z l a, find-no y z l b)))
+    go ih (no a) (yes b) i p q = absurd (not-first (find x l) (cc (find-yes y z l b, find-no x z l a)))
+    go ih (no a) (no b) zero p q = absurd (not-first (find x l) (sym (find-no x z l a) ∙ p))
+    go ih (no a) (no b) (suc i) p q = ih i (one-less (find x l) i (sym (find-no x z l a) ∙ p)) (one-less (find y l) i (sym (find-no y z l b) ∙ q))

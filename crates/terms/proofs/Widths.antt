@@ -1,0 +1,72 @@
+-- Rows have eight words and records five, and how many there are. Assumes nothing.
+use mathlib.Core.Path.{_≡_, refl, sym, ap, _∙_}
+use mathlib.Core.List.{List, [], _∷_, _++_, map}
+use mathlib.Core.Bool.{cond}
+use Prim.Native.Nat.{ℕ, suc, _+_, _≤_}
+use native.Mathlib.Omega.{arith}
+use lib.Dec.{eqb}
+use lib.ListN.{length, length-append, length-map}
+use Rattle.terms.specs.Forms.{universe, holds-span}
+use Rattle.terms.specs.Tree.{Cell, cells, next, roots}
+use Rattle.terms.specs.Label.{Name, Label, Declaration, trees, declared-name}
+use Rattle.terms.specs.Resolution.{Core, kept, var, global, unknown, resolve-declaration, CoreDeclaration, resolve-module}
+use Rattle.terms.specs.Rows.{span, surface-row, surface-rows, core-words, core-row, core-rows, declaration-records}
+use Rattle.terms.proofs.Cells.{next-cells}
+use Rattle.terms.proofs.Spans.{resolve-next}
+use Rattle.terms.proofs.Tables.{length-pad, Wide, wide-append}
+
+pub length-core-words : (l : Label) (c : Core) (k : List ℕ) → length (core-words l c k) ≡ 8
+length-core-words l kept k = ap suc (length-pad 7 (cond (eqb (l .kind) universe) (span l) [] ++ k))
+length-core-words l (var i) k = ap suc (length-pad 7 (i ∷ []))
+length-core-words l (global j) k = ap suc (length-pad 7 (j ∷ []))
+length-core-words l unknown k = ap suc (length-pad 7 [])
+
+pub length-surface-row : (c : Cell Label) → length (surface-row c) ≡ 8
+length-surface-row c = ap suc (length-pad 7 (cond (holds-span (c .label .kind)) (span (c .label)) [] ++ c .children))
+
+wide-map : {A : Type 0} (f : A → List ℕ) (w : ℕ) → ((a : A) → length (f a) ≡ w) → (l : List A) → Wide w (map f l)
+wide-map f w h [] = tt
+wide-map f w h (a ∷ l) = (h a, wide-map f w h l)
+
+pub wide-core : (n : ℕ) (l : List CoreDeclaration) → Wide 8 (core-rows n l)
+wide-core n [] = tt
+wide-core n (d ∷ l) =
+    wide-append 8 (map core-row (cells n (d .trees))) _
+    (wide-map core-row 8 (λ c. length-core-words (c .label .label) (c .label .core) (c .children)) (cells n (d .trees)))
+    (wide-core (next n (d .trees)) l)
+
+pub wide-surface : (n : ℕ) (l : List Declaration) → Wide 8 (surface-rows n l)
+wide-surface n [] = tt
+wide-surface n (d ∷ l) = wide-append 8 (map surface-row (cells n (trees d))) _ (wide-map surface-row 8 length-surface-row (cells n (trees d))) (wide-surface (next n (trees d)) l)
+
+pub wide-records : (n : ℕ) (l : List CoreDeclaration) → Wide 5 (declaration-records n l)
+wide-records n [] = tt
+wide-records n (d ∷ l) = (ap suc (ap suc (ap suc (length-pad 2 (roots n (d .trees))))), wide-records (next n (d .trees)) l)
+
+-- The number of the row behind those of some declarations, whose first row is n.
+abbrev pub total : ℕ → List Declaration → ℕ
+total n [] = n
+total n (d ∷ l) = total (next n (trees d)) l
+
+pub total-grows : (n : ℕ) (ds : List Declaration) → n ≤ total n ds
+total-grows n [] = omega arith
+total-grows n (d ∷ l) = omega (arith, total-grows (next n (trees d)) l, next-cells n (trees d))
+
+pub total-surface : (n : ℕ) (ds : List Declaration) → total n ds ≡ n + length (surface-rows n ds)
+total-surface n [] = omega arith
+total-surface n (d ∷ l) =
+    let f = trees d in
+    omega (arith, total-surface (next n f) l, next-cells n f, length-append (map surface-row (cells n f)) (surface-rows (next n f) l), length-map (cells n f) surface-row)
+
+pub total-core : (s : List ℕ) (g : List Name) (n : ℕ) (ds : List Declaration) → total n ds ≡ n + length (core-rows n (resolve-module s g ds))
+total-core s g n [] = omega arith
+total-core s g n (d ∷ l) =
+    let f = resolve-declaration s g d in
+    let h = g ++ (declared-name s d ∷ []) in
+    let t : total (next n (trees d)) l ≡ next n f + length (core-rows (next n f) (resolve-module s h l)) =
+    ap (λ (m : ℕ). total m l) (sym (resolve-next s (λ i. []) g n (trees d))) ∙ total-core s h (next n f) l in
+    omega (arith, t, next-cells n f, length-append (map core-row (cells n f)) (core-rows (next n f) (resolve-module s h l)), length-map (cells n f) core-row)
+
+pub count-records : (s : List ℕ) (g : List Name) (n : ℕ) (ds : List Declaration) → length (declaration-records n (resolve-module s g ds)) ≡ length ds
+count-records s g n [] = refl
+count-records s g n (d ∷ l) = ap suc (count-records s (g ++ (declared-name s d ∷ [])) (next n (resolve-declaration s g d)) l)

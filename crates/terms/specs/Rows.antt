@@ -1,0 +1,65 @@
+-- Document 01, "The module read" and "The core module": rows of eight words and declaration records of five. Assumes nothing.
+use mathlib.Core.List.{List, [], _∷_, _++_, map}
+use mathlib.Core.Bool.{cond}
+use Prim.Native.Nat.{ℕ, zero, suc}
+use lib.Dec.{eqb}
+use lib.ListN.{take, drop}
+use Rattle.terms.specs.Forms.{var-kind, global-kind, universe, holds-span}
+use Rattle.terms.specs.Tree.{Cell, next, roots, cells}
+use Rattle.terms.specs.Label.{Label, Declaration, trees}
+use Rattle.terms.specs.Resolution.{Core, kept, var, global, unknown, Resolved, CoreDeclaration}
+
+-- The first n words of a list, with 0 for those that are not there.
+abbrev pub pad : ℕ → List ℕ → List ℕ
+pad zero l = []
+pad (suc n) [] = 0 ∷ pad n []
+pad (suc n) (x ∷ l) = x ∷ pad n l
+
+-- "A row is eight 32-bit words: kind, then fields, unused words 0."
+abbrev pub row : ℕ → List ℕ → List ℕ
+row k fields = k ∷ pad 7 fields
+
+abbrev pub span : Label → List ℕ
+span l = l .start ∷ l .length ∷ []
+
+-- "Ref and universe hold start and length of their atom; pi, sigma and lam hold their binder's start and length, then children."
+abbrev pub surface-row : Cell Label → List ℕ
+surface-row c = row (c .label .kind) (cond (holds-span (c .label .kind)) (span (c .label)) [] ++ c .children)
+
+-- "Core row k has surface row k's kind and children without the binder, and a universe its start and length;
+-- ref becomes var with a count, or global with a place from 0." A module with an unknown reference leaves no row.
+abbrev pub core-words : Label → Core → List ℕ → List ℕ
+core-words l kept children = row (l .kind) (cond (eqb (l .kind) universe) (span l) [] ++ children)
+core-words l (var count) children = row var-kind (count ∷ [])
+core-words l (global place) children = row global-kind (place ∷ [])
+core-words l unknown children = row 0 []
+
+abbrev pub core-row : Cell Resolved → List ℕ
+core-row c = core-words (c .label .label) (c .label .core) (c .children)
+
+-- The rows of a module, declaration by declaration; the first is row n.
+abbrev pub surface-rows : ℕ → List Declaration → List (List ℕ)
+surface-rows n [] = []
+surface-rows n (d ∷ l) = map surface-row (cells n (trees d)) ++ surface-rows (next n (trees d)) l
+
+abbrev pub core-rows : ℕ → List CoreDeclaration → List (List ℕ)
+core-rows n [] = []
+core-rows n (d ∷ l) = map core-row (cells n (d .trees)) ++ core-rows (next n (d .trees)) l
+
+-- "A declaration record: kind (postulate 1, transparent 2, opaque 3), name start, name length, type row, body row (0 for a postulate)."
+abbrev pub declaration-record : ℕ → CoreDeclaration → List ℕ
+declaration-record n d = d .kind ∷ d .start ∷ d .length ∷ pad 2 (roots n (d .trees))
+
+abbrev pub declaration-records : ℕ → List CoreDeclaration → List (List ℕ)
+declaration-records n [] = []
+declaration-records n (d ∷ l) = declaration-record n d ∷ declaration-records (next n (d .trees)) l
+
+-- Rows one behind the other, as a lent table holds them.
+abbrev pub joined : List (List ℕ) → List ℕ
+joined [] = []
+joined (r ∷ l) = r ++ joined l
+
+-- The first n rows of a table whose rows have w words.
+abbrev pub first-rows : ℕ → ℕ → List ℕ → List (List ℕ)
+first-rows w zero t = []
+first-rows w (suc n) t = take w t ∷ first-rows w n (drop w t)
