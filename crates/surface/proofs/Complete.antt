@@ -7,9 +7,9 @@ use lib.Dec.{ltb}
 use borrow.Author.Tests.{ltb-true, lt-ltb}
 use Rattle.token.specs.declared.Token.{Token}
 use Rattle.terms.specs.Forms.{Shape, binding, plain, Form, Edition}
-use Rattle.terms.specs.Tree.{Forest, nil, node, Tree, next}
+use Rattle.terms.specs.Tree.{Forest, nil, node, Tree, next, count}
 use Rattle.terms.specs.Label.{Label}
-use Rattle.terms.proofs.Cells.{count, next-cells}
+use Rattle.terms.proofs.Cells.{next-cells}
 use Rattle.surface.specs.Text.{label-with, label-alone}
 use Rattle.surface.specs.Grammar.{Tokens, Closes, Tag, Terms, no-term, leaf-term, ref-term, universe-term, binding-term, plain-term}
 use Rattle.surface.specs.Reader.{Position, done}

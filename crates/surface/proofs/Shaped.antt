@@ -9,9 +9,9 @@ use lib.Dec.{leb, ltb, eqb}
 use borrow.Author.Tests.{leb-true, eqb-true}
 use Rattle.token.specs.declared.Token.{Token}
 use Rattle.terms.specs.Forms.{Shape, alone, with-name, with-numeral, binding, plain, Form, forms, Edition, edition-0-1, form-of-kind, arity-of}
-use Rattle.terms.specs.Tree.{Forest, relabel}
+use Rattle.terms.specs.Tree.{Forest, relabel, count}
 use Rattle.terms.specs.Label.{Label, Declaration, named, named-declaration}
-use Rattle.terms.proofs.Cells.{count, count-relabel}
+use Rattle.terms.proofs.Cells.{count-relabel}
 use Rattle.terms.proofs.FormTable.{every, of-word}
 use Rattle.terms.proofs.NamedModule.{Shaped, ShapedModule}
 use Rattle.surface.specs.Text.{text}

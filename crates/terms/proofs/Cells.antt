@@ -5,7 +5,7 @@ use Prim.Native.Nat.{ℕ, zero, suc, _+_}
 use native.Mathlib.Omega.{arith}
 use native.Mathlib.Nat.{suc-inj}
 use lib.ListN.{length, length-append}
-use Rattle.terms.specs.Tree.{Forest, nil, node, Cell, next, roots, cells, relabel}
+use Rattle.terms.specs.Tree.{count, Forest, nil, node, Cell, next, roots, cells, relabel}
 
 pub split : {A : Type 0} (s t u v : List A) → length s ≡ length t → s ++ u ≡ t ++ v → (s ≡ t) × (u ≡ v)
 split [] [] u v l e = (refl, e)
@@ -14,11 +14,6 @@ split (x ∷ s) [] u v l e = absurd (omega arith)
 split {A} (x ∷ s) (y ∷ t) u v l e =
     let w = split s t u v (suc-inj l) (tail-eq-of-cons-eq e) in
     (λ i. head-eq-of-cons-eq e i ∷ w .0 i, w .1)
-
--- How many trees a list has.
-abbrev pub count : {A : Type 0} → Forest A → ℕ
-count nil = zero
-count (node l a r) = suc (count r)
 
 module _ {A : Type 0} where
   pub next-cells : (n : ℕ) (f : Forest A) → next n f ≡ n + length (cells n f)
@@ -37,7 +32,7 @@ module _ {A : Type 0} where
       let z = cells-inj (suc (next n a)) r s (cc) (tail-eq-of-cons-eq (w .1) ∙ ap (λ m. cells (suc m) s) (sym at)) in
       λ i. node (x i) (y i) (z i)
 
-  -- Equal rows of the terms themselves: as count rows in all.
+  -- Equal rows of the terms themselves: as many rows in all.
   pub next-roots : (n m : ℕ) (f g : Forest A) → n ≡ m → roots n f ≡ roots m g → next n f ≡ next m g
   next-roots n m nil nil e h = e
   next-roots n m nil (node k b s) e h = absurd (let z : _≡_ {A = ℕ} 0 1 = cc in omega arith)

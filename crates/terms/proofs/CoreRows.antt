@@ -6,11 +6,11 @@ use native.Mathlib.Omega.{arith}
 use native.Mathlib.Nat.{suc-inj}
 use lib.ListN.{length}
 use Rattle.terms.specs.Forms.{arity-of}
-use Rattle.terms.specs.Tree.{Forest, nil, node, Cell, next, roots, cells}
+use Rattle.terms.specs.Tree.{Forest, nil, node, Cell, next, roots, cells, count}
 use Rattle.terms.specs.Rows.{pad}
 use Rattle.terms.specs.Content.{RowContent}
 use Rattle.terms.proofs.FormTable.{arity-small}
-use Rattle.terms.proofs.Cells.{count, length-roots, cells-inj}
+use Rattle.terms.proofs.Cells.{length-roots, cells-inj}
 use Rattle.terms.proofs.NamedCore.{NamedCore, form, local, earlier, unresolved}
 
 pub pad-inj : (n : ℕ) (l m : List ℕ) → length l ≡ length m → length l ≤ n → pad n l ≡ pad n m → l ≡ m

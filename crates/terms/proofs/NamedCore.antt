@@ -8,8 +8,7 @@ use Prim.Native.Nat.{ℕ, zero, suc}
 use native.Mathlib.Decide.{ℕ-discrete}
 use lib.Dec.{eqb}
 use Rattle.terms.specs.Forms.{universe, ref}
-use Rattle.terms.specs.Tree.{Forest, nil, node}
-use Rattle.terms.proofs.Cells.{count}
+use Rattle.terms.specs.Tree.{Forest, nil, node, count}
 use Rattle.terms.specs.Label.{Name, Named, Terms}
 use Rattle.terms.specs.Resolution.{find, covers}
 

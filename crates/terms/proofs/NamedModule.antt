@@ -9,13 +9,13 @@ use native.Mathlib.Decide.{ℕ-discrete}
 use native.Mathlib.Omega.{arith}
 use lib.ListN.{length, length-map}
 use Rattle.terms.specs.Forms.{ref, arity-of}
-use Rattle.terms.specs.Tree.{Forest, nil, node, tree, maybe, cells, next, roots}
+use Rattle.terms.specs.Tree.{Forest, nil, node, tree, maybe, cells, next, roots, count}
 use Rattle.terms.specs.Label.{Name, Named, Terms, NamedDeclaration}
 use Rattle.terms.specs.Resolution.{find}
 use Rattle.terms.specs.Rows.{pad}
 use Rattle.terms.specs.Content.{RowContent, RecordContent}
 use Rattle.terms.proofs.FormTable.{arity-ref}
-use Rattle.terms.proofs.Cells.{count, split, next-cells, next-roots, length-roots}
+use Rattle.terms.proofs.Cells.{split, next-cells, next-roots, length-roots}
 use Rattle.terms.proofs.NamedCore.{NamedCore, found, core-at, core-at-ref, core-at-form, inner, core, is-known, known, known-node, count-core}
 use Rattle.terms.proofs.CoreRows.{pad-inj, row, rows, Fits, AllFit, terms-inj}
 

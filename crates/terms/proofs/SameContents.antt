@@ -7,8 +7,7 @@ use mathlib.Core.Bool.{true}
 use Prim.Native.Nat.{ℕ, zero, suc}
 use native.Mathlib.Omega.{arith}
 use native.Mathlib.Nat.{suc-inj}
-use Rattle.terms.specs.Tree.{nil, tree, maybe}
-use Rattle.terms.proofs.Cells.{count}
+use Rattle.terms.specs.Tree.{nil, tree, maybe, count}
 use Rattle.terms.specs.Label.{Name, Term, NamedDeclaration}
 use Rattle.terms.specs.Agreement.{Agree, AgreeDeclaration, AgreeModule}
 use Rattle.terms.proofs.Names.{none-some, some-inj}

@@ -36,6 +36,11 @@ module _ {A : Type 0} where
   pick (node l a r) zero = some (record { label = l; args = a })
   pick (node l a r) (suc i) = pick r i
 
+  -- How many trees a list has.
+  abbrev pub count : Forest A → ℕ
+  count nil = zero
+  count (node l a r) = suc (count r)
+
   -- What stands at a place of a tree.
   abbrev pub at : Place → Tree A → Option (Tree A)
   at [] t = some t

@@ -1,0 +1,4 @@
+mod Parts
+mod KindWords
+mod Rows
+mod Example

@@ -1,0 +1,19 @@
+-- `lines::put_part` meets its contract. Assumes nothing.
+use borrow.Author.Needs.{needs}
+use Rattle.lines.proofs.put_part.Statement.{statement}
+use Rattle.lines.proofs.put_part.Tie as tie
+
+part-of-requires : tie.Need-part-of-requires
+part-of-requires c κs = search needs
+
+put-requires : tie.Need-put-requires
+put-requires c κs = search needs
+
+same-length : tie.Need-same-length
+same-length c = search needs
+
+returns : tie.Need-returns
+returns c = rw (← c .before .before .before .part-of .ensures) (c .before .before .put .ensures)
+
+pub put-part-spec : {M : Type 1} → statement M
+put-part-spec = tie.close (tie.spec part-of-requires put-requires same-length returns)

@@ -1,0 +1,3 @@
+mod Digits
+mod Putting
+pub mod Writing
