@@ -1,0 +1,109 @@
+-- What the lines of the head give, by what their parts give. Assumes nothing.
+use Prim.Native.Nat.{ℕ}
+use mathlib.Core.Path.{_≡_, refl, sym, _∙_}
+use mathlib.Core.Bool.{true, false}
+use mathlib.Core.List.{List}
+use mathlib.Core.Option.{none, some}
+use Rattle.token.specs.declared.Token.{Token}
+use Rattle.token.specs.declared.Refusal.{Refusal}
+use Rattle.token.specs.declared.Lexed.{Lexed}
+use Rattle.token.specs.declared.Lexed.the-variants.{Got, Refused}
+use Rattle.words.specs.Words.{ascii}
+use Rattle.terms.specs.Forms.{edition-0-1}
+use Rattle.surface.specs.Reader.{Position, Result, done, refused, Reader, after, _>>=_, pure, nowhere}
+use Rattle.surface.specs.Reading.{opening, closing, word, natural, name, edition-of, supported, surface-line, module-line, head}
+use Rattle.surface.specs.Text.{text}
+use Rattle.expects.specs.declared.HeadRead.{HeadRead}
+use Rattle.expects.specs.Expects.{position-at, Reads, head-read, Heads}
+use Rattle.expects.specs.Lines.{tag, version-0-1, name-read, ClosesVersion, SurfaceLine, ModuleLine}
+
+after-after : {A B C : Type 0} (x : Result A) (f : A → Reader B) (g : B → Reader C) → after (after x f) g ≡ after x (λ a q. after (f a q) g)
+after-after (done a q) f g = refl
+after-after (refused r) f g = refl
+
+-- A line is its tag and the rest.
+tag-first : {B : Type 0} (s w : List ℕ) (k : Token → Reader B) (p : Position) → (opening s >>= (λ o. word s w >>= k)) p ≡ (tag s w >>= k) p
+unfolding tag
+tag-first s w k p = sym (after-after (opening s p) (λ o. word s w) k)
+
+module _ (s w : List ℕ) (at : ℕ) (x : Lexed) (h : Reads s (opening s) at x) where
+  pub tag-refused : (r : Refusal) → x ≡ Refused r → Reads s (tag s w) at (Refused r)
+  unfolding tag
+  tag-refused r e = λ n. rw (h n, e)
+
+  pub tag-got : (o : Token) → x ≡ Got o → (y : Lexed) → Reads s (word s w) (o .end) y → Reads s (tag s w) at y
+  unfolding tag
+  tag-got o e y g = λ n. rw (h n, e) (g n)
+
+edition-is : (s : List ℕ) (major minor : Token) → version-0-1 s major minor ≡ true → edition-of (text s major) (text s minor) ≡ some edition-0-1
+unfolding edition-of
+edition-is s major minor v = rw (v, edition-of)
+
+edition-none : (s : List ℕ) (major minor : Token) → version-0-1 s major minor ≡ false → edition-of (text s major) (text s minor) ≡ none
+unfolding edition-of
+edition-none s major minor v = rw (v, edition-of)
+
+-- The closing parenthesis of the surface line, and the version.
+module _ (s : List ℕ) (major minor : Token) (x : Lexed) (h : Reads s (closing s) (minor .end) x) where
+  pub version-refused : (r : Refusal) → x ≡ Refused r → ClosesVersion s major minor (Refused r)
+  version-refused r e = λ n. rw (h n, e)
+
+  module _ (c : Token) (e : x ≡ Got c) where
+    pub version-got : version-0-1 s major minor ≡ true → ClosesVersion s major minor (Got c)
+    unfolding supported
+    version-got v = λ n. rw (h n, e, edition-is s major minor v)
+
+    pub version-not : version-0-1 s major minor ≡ false → ClosesVersion s major minor (Refused (nowhere 2))
+    unfolding supported
+    version-not v = λ n. rw (h n, e, edition-none s major minor v)
+
+module _ (s : List ℕ) (x : Lexed) (h : Reads s (tag s (ascii "surface")) 0 x) where
+  pub surface-refused : (r : Refusal) → x ≡ Refused r → SurfaceLine s (Refused r)
+  unfolding surface-line
+  surface-refused r e = λ n. tag-first s (ascii "surface") _ (position-at 0 n) ∙ rw (h n, e)
+
+  module _ (w : Token) (e : x ≡ Got w) (y : Lexed) (g : Reads s (natural s) (w .end) y) where
+    pub major-refused : (r : Refusal) → y ≡ Refused r → SurfaceLine s (Refused r)
+    unfolding surface-line
+    major-refused r i = λ n. tag-first s (ascii "surface") _ (position-at 0 n) ∙ rw (h n, e, g n, i)
+
+    module _ (major : Token) (i : y ≡ Got major) (z : Lexed) (f : Reads s (natural s) (major .end) z) where
+      pub minor-refused : (r : Refusal) → z ≡ Refused r → SurfaceLine s (Refused r)
+      unfolding surface-line
+      minor-refused r j = λ n. tag-first s (ascii "surface") _ (position-at 0 n) ∙ rw (h n, e, g n, i, f n, j)
+
+      pub surface-got : (minor : Token) → z ≡ Got minor → (r : Lexed) → ClosesVersion s major minor r → SurfaceLine s r
+      unfolding surface-line
+      surface-got minor j r v = λ n. tag-first s (ascii "surface") _ (position-at 0 n) ∙ rw (h n, e, g n, i, f n, j) (v n)
+
+module _ (s : List ℕ) (at : ℕ) (x : Lexed) (h : Reads s (tag s (ascii "module")) at x) where
+  pub module-refused : (r : Refusal) → x ≡ Refused r → ModuleLine s at (HeadRead.Refused r)
+  unfolding module-line
+  module-refused r e = λ n. tag-first s (ascii "module") _ (position-at at n) ∙ rw (h n, e)
+
+  module _ (w : Token) (e : x ≡ Got w) (y : Lexed) (g : Reads s (name edition-0-1 s) (w .end) y) where
+    pub name-refused : (r : Refusal) → y ≡ Refused r → ModuleLine s at (HeadRead.Refused r)
+    unfolding module-line
+    name-refused r i = λ n. tag-first s (ascii "module") _ (position-at at n) ∙ rw (h n, e, g n, i)
+
+    module _ (t : Token) (i : y ≡ Got t) (z : Lexed) (f : Reads s (closing s) (t .end) z) where
+      pub close-refused : (r : Refusal) → z ≡ Refused r → ModuleLine s at (HeadRead.Refused r)
+      unfolding module-line
+      close-refused r j = λ n. tag-first s (ascii "module") _ (position-at at n) ∙ rw (h n, e, g n, i, f n, j)
+
+      pub module-got : (c : Token) → z ≡ Got c → ModuleLine s at (HeadRead.Name t (c .end))
+      unfolding module-line
+      module-got c j = λ n. tag-first s (ascii "module") _ (position-at at n) ∙ rw (h n, e, g n, i, f n, j)
+
+named : (n : ℕ) (r : HeadRead) → after (name-read n r) (λ t. pure (record { edition = edition-0-1; name = t })) ≡ head-read n r
+named n (HeadRead.Name t next) = refl
+named n (HeadRead.Refused r) = refl
+
+module _ (s : List ℕ) (x : Lexed) (h : SurfaceLine s x) where
+  pub head-refused : (r : Refusal) → x ≡ Refused r → Heads s (HeadRead.Refused r)
+  unfolding head
+  head-refused r e = λ n. rw (h n, e)
+
+  pub head-got : (c : Token) → x ≡ Got c → (r : HeadRead) → ModuleLine s (c .end) r → Heads s r
+  unfolding head
+  head-got c e r m = λ n. rw (h n, e, m n) (named n r)

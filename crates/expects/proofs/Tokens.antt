@@ -1,0 +1,116 @@
+-- What the readers of one token give, by the token that stands next. Assumes nothing.
+use Prim.Native.Nat.{ℕ}
+use mathlib.Core.Path.{_≡_, refl, sym, _∙_, ap}
+use mathlib.Core.Bool.{Bool, true, false, not, cond}
+use mathlib.Core.List.{List}
+use lib.Dec.{eqb}
+use borrow.Author.Tests.{eq-eqb, ne-eqb}
+use Rattle.token.specs.Token.{next-token}
+use Rattle.token.specs.declared.TokenKind.{TokenKind}
+use Rattle.token.specs.declared.Token.{Token}
+use Rattle.token.specs.declared.Refusal.{Refusal}
+use Rattle.token.specs.declared.Lexed.{Lexed}
+use Rattle.token.specs.declared.Lexed.the-variants.{Got, Refused}
+use Rattle.words.specs.Words.{same-bytes, reserved, identifier, numeral, name-test}
+use Rattle.words.specs.declared.NameTest.{NameTest}
+use Rattle.terms.specs.Forms.{edition-0-1}
+use Rattle.surface.specs.Reader.{Position, Result, done, refused, Reader, after, _>>_, pure, refuse, require, at-token}
+use Rattle.surface.specs.Reading.{token, opening, closing, atom, word, natural, name}
+use Rattle.surface.specs.Text.{text, is-open, is-close, is-atom}
+use Rattle.expects.specs.Expects.{position-at, Reads}
+use Rattle.expects.specs.Tokens.{kind-number, of-kind}
+
+-- A token of a wanted kind, where x stands next.
+module _ (s : List ℕ) (wanted : TokenKind) (at : ℕ) (x : Lexed) (h : x ≡ next-token s at) where
+  pub kind-refused : (r : Refusal) → x ≡ Refused r → Reads s (of-kind s wanted) at (Refused r)
+  unfolding of-kind token
+  kind-refused r e = λ n. rw (sym h ∙ e)
+
+  module _ (t : Token) (e : x ≡ Got t) where
+    pub kind-got : kind-number (t .kind) ≡ kind-number wanted → Reads s (of-kind s wanted) at (Got t)
+    unfolding of-kind token
+    kind-got k = λ n. rw (sym h ∙ e, eq-eqb _ _ k)
+
+    pub kind-not : (kind-number (t .kind) ≡ kind-number wanted → ⊥) → (r : Refusal) → r ≡ at-token 1 t → Reads s (of-kind s wanted) at (Refused r)
+    unfolding of-kind token
+    kind-not k r i = λ n. rw (sym h ∙ e, ne-eqb _ _ k, i)
+
+-- The readers of a token whose kind passes a test f: it holds for the wanted kind alone.
+module _ (f : TokenKind → Bool) (wanted : TokenKind) where
+  is-wanted : TokenKind → Bool
+  is-wanted k = eqb (kind-number k) (kind-number wanted)
+
+  module _ (l : f TokenKind.LParen ≡ is-wanted TokenKind.LParen) (r : f TokenKind.RParen ≡ is-wanted TokenKind.RParen)
+      (a : f TokenKind.Atom ≡ is-wanted TokenKind.Atom) (e : f TokenKind.Eof ≡ is-wanted TokenKind.Eof) where
+    same-test : (k : TokenKind) → f k ≡ is-wanted k
+    same-test TokenKind.LParen = l
+    same-test TokenKind.RParen = r
+    same-test TokenKind.Atom = a
+    same-test TokenKind.Eof = e
+
+    same-token : (x : Result Token) → after x (λ t. require (f (t .kind)) (at-token 1 t) >> pure t) ≡ after x (λ t. require (is-wanted (t .kind)) (at-token 1 t) >> pure t)
+    same-token (done t q) = rw (same-test (t .kind))
+    same-token (refused r) = refl
+
+module _ (s : List ℕ) (p : Position) where
+  pub opening-kind : opening s p ≡ of-kind s TokenKind.LParen p
+  unfolding opening of-kind is-wanted
+  opening-kind = same-token is-open TokenKind.LParen refl refl refl refl (token s p)
+
+  pub closing-kind : closing s p ≡ of-kind s TokenKind.RParen p
+  unfolding closing of-kind is-wanted
+  closing-kind = same-token is-close TokenKind.RParen refl refl refl refl (token s p)
+
+  pub atom-kind : atom s p ≡ of-kind s TokenKind.Atom p
+  unfolding atom of-kind is-wanted
+  atom-kind = same-token is-atom TokenKind.Atom refl refl refl refl (token s p)
+
+-- What the test of a name gives.
+abbrev pub by-test : Token → NameTest → Reader Token
+by-test t NameTest.Name = pure t
+by-test t NameTest.Reserved = refuse (at-token 3 t)
+by-test t NameTest.NotIdentifier = refuse (at-token 1 t)
+
+test-order : (a b : Bool) (t : Token) (v : NameTest) (p : Position) → cond a NameTest.Reserved (cond b NameTest.Name NameTest.NotIdentifier) ≡ v
+    → (require (not a) (at-token 3 t) >> (require b (at-token 1 t) >> pure t)) p ≡ by-test t v p
+test-order true b t v p e = ap (λ u. by-test t u p) e
+test-order false true t v p e = ap (λ u. by-test t u p) e
+test-order false false t v p e = ap (λ u. by-test t u p) e
+
+-- An atom that is tested, where x is read for an atom.
+module _ (s : List ℕ) (at : ℕ) (x : Lexed) (h : Reads s (atom s) at x) where
+  module _ (r : Refusal) (e : x ≡ Refused r) where
+    pub word-refused : (w : List ℕ) → Reads s (word s w) at (Refused r)
+    unfolding word
+    word-refused w = λ n. rw (h n, e)
+
+    pub natural-refused : Reads s (natural s) at (Refused r)
+    unfolding natural
+    natural-refused = λ n. rw (h n, e)
+
+    pub name-refused : Reads s (name edition-0-1 s) at (Refused r)
+    unfolding name
+    name-refused = λ n. rw (h n, e)
+
+  module _ (t : Token) (e : x ≡ Got t) where
+    pub word-got : (w : List ℕ) → same-bytes (text s t) w ≡ true → Reads s (word s w) at (Got t)
+    unfolding word
+    word-got w q = λ n. rw (h n, e, q)
+
+    pub natural-got : numeral (text s t) ≡ true → Reads s (natural s) at (Got t)
+    unfolding natural
+    natural-got q = λ n. rw (h n, e, q)
+
+    -- The name by the name test, in the test's order.
+    pub name-tested : (v : NameTest) → name-test (text s t) ≡ v → (n : ℕ) → name edition-0-1 s (position-at at n) ≡ by-test t v (position-at (t .end) n)
+    unfolding name edition-0-1 name-test
+    name-tested v q = λ n. rw (h n, e) (test-order (reserved (text s t)) (identifier (text s t)) t v (position-at (t .end) n) q)
+
+    module _ (r : Refusal) where
+      pub word-not : r ≡ at-token 1 t → (w : List ℕ) → same-bytes (text s t) w ≡ false → Reads s (word s w) at (Refused r)
+      unfolding word
+      word-not i w q = λ n. rw (h n, e, q, i)
+
+      pub natural-not : r ≡ at-token 1 t → numeral (text s t) ≡ false → Reads s (natural s) at (Refused r)
+      unfolding natural
+      natural-not i q = λ n. rw (h n, e, q, i)

@@ -1,0 +1,15 @@
+-- `expects::expect_lparen` meets its contract. Assumes nothing.
+use mathlib.Core.Path.{_∙_}
+use Rattle.expects.proofs.Tokens.{opening-kind}
+use borrow.Author.Needs.{needs}
+use Rattle.expects.proofs.expect_lparen.Statement.{statement}
+use Rattle.expects.proofs.expect_lparen.Tie as tie
+
+expect-kind-requires : tie.Need-expect-kind-requires
+expect-kind-requires c κs = search needs
+
+returns : tie.Need-returns
+returns c = λ n. opening-kind _ _ ∙ c .expect-kind .ensures n
+
+pub expect-lparen-spec : {M : Type 1} → statement M
+expect-lparen-spec = tie.close (tie.spec expect-kind-requires returns)

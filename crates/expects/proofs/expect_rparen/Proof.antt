@@ -1,0 +1,15 @@
+-- `expects::expect_rparen` meets its contract. Assumes nothing.
+use mathlib.Core.Path.{_∙_}
+use Rattle.expects.proofs.Tokens.{closing-kind}
+use borrow.Author.Needs.{needs}
+use Rattle.expects.proofs.expect_rparen.Statement.{statement}
+use Rattle.expects.proofs.expect_rparen.Tie as tie
+
+expect-kind-requires : tie.Need-expect-kind-requires
+expect-kind-requires c κs = search needs
+
+returns : tie.Need-returns
+returns c = λ n. closing-kind _ _ ∙ c .expect-kind .ensures n
+
+pub expect-rparen-spec : {M : Type 1} → statement M
+expect-rparen-spec = tie.close (tie.spec expect-kind-requires returns)

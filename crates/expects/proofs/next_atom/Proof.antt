@@ -1,0 +1,15 @@
+-- `expects::next_atom` meets its contract. Assumes nothing.
+use mathlib.Core.Path.{_∙_}
+use Rattle.expects.proofs.Tokens.{atom-kind}
+use borrow.Author.Needs.{needs}
+use Rattle.expects.proofs.next_atom.Statement.{statement}
+use Rattle.expects.proofs.next_atom.Tie as tie
+
+expect-kind-requires : tie.Need-expect-kind-requires
+expect-kind-requires c κs = search needs
+
+returns : tie.Need-returns
+returns c = λ n. atom-kind _ _ ∙ c .expect-kind .ensures n
+
+pub next-atom-spec : {M : Type 1} → statement M
+next-atom-spec = tie.close (tie.spec expect-kind-requires returns)

@@ -1,0 +1,38 @@
+-- What must stand next: the answers of the code beside the readers of `surface`. Assumes nothing.
+use mathlib.Core.Path.{_≡_}
+use mathlib.Core.List.{List}
+use Prim.Native.Nat.{ℕ, _≤_}
+use lib.ListN.{length}
+use Rattle.token.specs.declared.Lexed.{Lexed}
+use Rattle.token.specs.declared.Token.{Token}
+use Rattle.terms.specs.Forms.{Edition, edition-0-1}
+use Rattle.surface.specs.Reader.{Position, Result, done, refused, Reader}
+use Rattle.surface.specs.Reading.{Beginning, leaf, frame, lexed, beginning, Head, head}
+use Rattle.expects.specs.declared.Begun.{Begun}
+use Rattle.expects.specs.declared.HeadRead.{HeadRead}
+
+abbrev pub position-at : ℕ → ℕ → Position
+position-at at n = record { offset = at; rows = n }
+
+-- r is what a reader of one token gives at an offset, however many rows are stored.
+abbrev pub Reads : List ℕ → Reader Token → ℕ → Lexed → Type 0
+Reads s reader at r = (n : ℕ) → reader (position-at at n) ≡ lexed s n r
+
+-- What a term begins with, behind which reading goes on; or the refusal.
+abbrev pub begun : ℕ → Begun → Result Beginning
+begun n (Begun.Leaf l next) = done (leaf l) (position-at next n)
+begun n (Begun.Frame l arity next) = done (frame l arity) (position-at next n)
+begun n (Begun.Refused r) = refused r
+
+-- r is what a term begins with at an offset of a source that is not too long for 32-bit words.
+abbrev pub Begins : List ℕ → ℕ → Begun → Type 0
+Begins s at r = length s ≤ 65535 → (n : ℕ) → beginning edition-0-1 s (position-at at n) ≡ begun n r
+
+-- The module's name, and where reading goes on behind the head; or the refusal. There is one edition.
+abbrev pub head-read : ℕ → HeadRead → Result Head
+head-read n (HeadRead.Name t next) = done (record { edition = edition-0-1; name = t }) (position-at next n)
+head-read n (HeadRead.Refused r) = refused r
+
+-- r is the head at the beginning of a source.
+abbrev pub Heads : List ℕ → HeadRead → Type 0
+Heads s r = (n : ℕ) → head s (position-at 0 n) ≡ head-read n r

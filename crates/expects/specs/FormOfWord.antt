@@ -1,0 +1,17 @@
+-- The form of a word as three numbers: how the answer of the code is read. Assumes nothing.
+use mathlib.Core.Option.{Option, none, some}
+use Prim.Native.Nat.{ℕ}
+use Rattle.terms.specs.Forms.{Shape, alone, with-name, with-numeral, binding, plain, Form}
+use Rattle.expects.specs.declared.FormOfWord.{FormOfWord}
+
+-- 0 is left for a word that has no form.
+abbrev pub shape-number : Shape → ℕ
+shape-number alone = 1
+shape-number with-name = 2
+shape-number with-numeral = 3
+shape-number binding = 4
+shape-number plain = 5
+
+abbrev pub form-numbers : Option Form → FormOfWord
+form-numbers none = record { kind = 0; shape = 0; arity = 0 }
+form-numbers (some f) = record { kind = f .kind; shape = shape-number (f .shape); arity = f .arity }

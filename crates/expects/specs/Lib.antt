@@ -1,0 +1,5 @@
+pub mod Expects
+pub mod FormOfWord
+pub mod Tokens
+pub mod Terms
+pub mod Lines

@@ -1,0 +1,33 @@
+-- Tokens by the number of their kind, and their place in a source. Assumes nothing.
+use mathlib.Core.List.{List}
+use Prim.Native.Nat.{ℕ, _≤_}
+use lib.Dec.{eqb}
+use Rattle.token.specs.declared.TokenKind.{TokenKind}
+use Rattle.token.specs.declared.Token.{Token}
+use Rattle.token.specs.declared.Lexed.{Lexed}
+use Rattle.token.specs.declared.Lexed.the-variants.{Got, Refused}
+use Rattle.surface.specs.Reader.{Reader, _>>=_, _>>_, pure, require, at-token}
+use Rattle.surface.specs.Reading.{token}
+
+abbrev pub kind-number : TokenKind → ℕ
+kind-number TokenKind.LParen = 0
+kind-number TokenKind.RParen = 1
+kind-number TokenKind.Atom = 2
+kind-number TokenKind.Eof = 3
+
+-- A token of a wanted kind: `opening`, `closing` and `atom` are this.
+unfoldable pub of-kind : List ℕ → TokenKind → Reader Token
+of-kind s wanted = do
+  t ← token s
+  require (eqb (kind-number (t .kind)) (kind-number wanted)) (at-token 1 t)
+  pure t
+
+-- A token that stands in a source of so many bytes.
+pub record Inside (hi : ℕ) (t : Token) : Type 0 where
+  pub order : t .start ≤ t .end
+  pub high : t .end ≤ hi
+
+-- The same, if it is a token at all.
+abbrev pub LexedInside : ℕ → Lexed → Type 0
+LexedInside hi (Got t) = Inside hi t
+LexedInside hi (Refused r) = Unit
