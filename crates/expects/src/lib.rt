@@ -19,7 +19,7 @@ use token::Token;
 use token::TokenKind;
 use words::NameTest;
 
-mod tables;
+mod by_index;
 
 // What a term begins with, and where reading goes on: the whole of a term without arguments, or a frame with its arity.
 pub enum Begun {
@@ -156,7 +156,7 @@ pub fn declaration_kind(w: &[u8]) -> u32
     ensures { λ r. ⌜ r ≡ declaration-kind (now (w .entry)) ⌝ }
 {
     let k = words::word_index(w) as usize;
-    tables::DECLARATION_KINDS[k]
+    by_index::DECLARATION_KINDS[k]
 }
 
 pub fn form_of_word(w: &[u8]) -> FormOfWord
@@ -164,9 +164,9 @@ pub fn form_of_word(w: &[u8]) -> FormOfWord
 {
     let k = words::word_index(w) as usize;
     FormOfWord {
-        kind: tables::KINDS[k],
-        shape: tables::SHAPES[k],
-        arity: tables::ARITIES[k],
+        kind: by_index::KINDS[k],
+        shape: by_index::SHAPES[k],
+        arity: by_index::ARITIES[k],
     }
 }
 

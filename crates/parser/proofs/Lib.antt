@@ -1,0 +1,8 @@
+pub mod Counting
+pub mod TreeRows
+pub mod Growth
+pub mod Resume
+pub mod Readers
+mod States
+mod Steps
+mod Loop

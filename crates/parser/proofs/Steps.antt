@@ -1,0 +1,109 @@
+-- The steps of the frame reader, from what the functions that they call give. Assumes nothing.
+use mathlib.Core.Path.{_≡_, sym, _∙_, ap}
+use mathlib.Core.List.{List, [], _∷_, _++_}
+use mathlib.Core.Bool.{true, false, and-true}
+use Prim.Native.Nat.{ℕ, suc, _+_, _*_, _≤_, _<_, min}
+use native.Mathlib.Omega.{arith}
+use native.Mathlib.Numerals.{add-one}
+use lib.Dec.{ltb}
+use lib.ListN.{length, take, length-take}
+use borrow.Author.Tests.{le-leb, ltb-true, ltb-false}
+use Rattle.token.specs.declared.Lexed.{Lexed}
+use Rattle.token.specs.declared.Token.{Token}
+use Rattle.token.specs.declared.Refusal.{Refusal}
+use Rattle.terms.specs.Forms.{edition-0-1, arity-of}
+use Rattle.terms.specs.Label.{Label}
+use Rattle.terms.specs.Rows.{surface-row}
+use Rattle.rows.specs.Places.{stored-at}
+use Rattle.rows.proofs.Arities.{arity-at-most-six}
+use Rattle.frames.proofs.OpenFrames.{frames-opened, frames-pushed}
+use Rattle.frames.specs.declared.TermFrame.{TermFrame}
+use Rattle.frames.specs.Frames.{frame-at, frame-count, frame-args, term-frame, open-frames, may-open, opened, pushed}
+use Rattle.surface.specs.Reader.{nowhere}
+use Rattle.surface.specs.Reading.{beginning, closing, lexed}
+use Rattle.expects.specs.Expects.{position-at, begun, Begins}
+use Rattle.expects.specs.Expects as expects
+use Rattle.expects.specs.declared.Begun.{Begun}
+use Rattle.parser.specs.TermRows.{refused}
+use Rattle.parser.specs.Machine.{outcome, pushed-term, Inside, Went, Stepped}
+use Rattle.parser.specs.declared.State.{State}
+use Rattle.parser.specs.declared.Step.{Step}
+use Rattle.parser.proofs.States.{last-waits, others-wait, push-stepped, begin-refused, leaf-same, too-deep, open-went, more-went, close-refused, close-same}
+use Rattle.parser.proofs.Readers.{begin-arities, begin-ahead, close-ahead}
+
+-- One more frame may be opened exactly if fewer than 512 are open: the work area has room for them.
+open-test : (w : List ℕ) (d : ℕ) → 16384 ≤ length w → d ≤ 512 → may-open w d ≡ ltb d 512
+open-test w d h k = rw (le-leb (d * 11 + 11) (length w) (omega arith)) (and-true (ltb d 512))
+
+module _ (s table work : List ℕ) (st : State) (i : Inside s work st) where
+  -- A term is to be read, and x is what it begins with.
+  module _ (x : Begun) (have : st .have ≡ false) (begins : Begins s (st .at) x) where
+    begun-at : (y : Begun) → x ≡ y → beginning edition-0-1 s (position-at (st .at) (st .rows)) ≡ begun (st .rows) y
+    begun-at y e = begins (i .source) (st .rows) ∙ ap (begun (st .rows)) e
+
+    pub refused-step : (r : Refusal) → x ≡ Begun.Refused r → outcome s table work st ≡ refused r
+    refused-step r e = begin-refused s table work st have r (begun-at _ e)
+
+    pub leaf-step : (l : Label) (next : ℕ) (r : Step) (table₁ : List ℕ) → x ≡ Begun.Leaf l next
+        → r ≡ pushed-term table (st .rows) next (st .depth) → table₁ ≡ stored-at 8 table (st .rows) (surface-row (record { label = l; children = [] }))
+        → Stepped s table work st r table₁ work
+    leaf-step l next r table₁ e q t =
+        let b = begun-at _ e in
+        let a = begin-ahead s _ _ _ b in
+        push-stepped s table work st l [] next (st .depth) work (leaf-same s table work st have l next b) i (a .past) (a .high) (i .depth) (i .area) (i .waiting) r table₁ q t
+
+    pub open-step : (l : Label) (n next : ℕ) (area : List ℕ) → x ≡ Begun.Frame l n next → may-open work (st .depth) ≡ true → area ≡ opened work (st .depth) l
+        → length area ≡ length work
+        → Went s table work st (record { at = next; rows = st .rows; depth = st .depth + 1; value = 0; have = false }) table area
+    open-step l n next area e m q k =
+        let b = begun-at _ e in
+        let a = begin-ahead s _ _ _ b in
+        let d : st .depth < 512 = ltb-true (st .depth) 512 (sym (open-test work (st .depth) (i .area) (i .depth)) ∙ m) in
+        open-went s table work st have (begin-arities s) l n next b d i area (a .past) (a .high) k
+        (ap (open-frames area) (add-one (st .depth)) ∙ ap (λ (w : List ℕ). open-frames w (suc (st .depth))) q ∙ frames-opened work (st .depth) (omega (arith, i .area)) d l)
+
+    pub deep-step : (l : Label) (n next : ℕ) → x ≡ Begun.Frame l n next → may-open work (st .depth) ≡ false → outcome s table work st ≡ refused (nowhere 7)
+    deep-step l n next e m =
+        too-deep s table work st have l n next (begun-at _ e) (ltb-false (st .depth) 512 (sym (open-test work (st .depth) (i .area) (i .depth)) ∙ m))
+
+  -- A term is complete, and the frame d, which is the last, takes it.
+  module _ (d : ℕ) (have : st .have ≡ true) (deep : st .depth ≡ suc d) (area : List ℕ) (q : area ≡ pushed work d (st .value)) where
+    abbrev count : List ℕ → ℕ
+    count w = frame-count w (d * 11)
+
+    abbrev kind : List ℕ → ℕ
+    kind w = frame-at w d .label .kind
+
+    counted : (w : List ℕ) → length (frame-at w d .children) ≡ min (count w) 6
+    unfolding frame-at
+    counted w = length-take (count w) (frame-args w (d * 11))
+
+    frames : open-frames area (suc d) ≡ record { label = frame-at work d .label; children = frame-at work d .children ++ (st .value ∷ []) } ∷ open-frames work d
+    frames =
+        let w = last-waits work (st .depth) d deep (i .waiting) in
+        ap (λ (v : List ℕ). open-frames v (suc d)) q
+        ∙ frames-pushed work d (omega (arith, i .area)) (omega (arith, i .depth)) (st .value) (omega (arith, counted work, arity-at-most-six (kind work)))
+
+    pub more-step : count area < arity-of (kind area) → length area ≡ length work
+        → Went s table work st (record { at = st .at; rows = st .rows; depth = st .depth; value = 0; have = false }) table area
+    more-step h k = more-went s table work st d have deep i area frames (omega (arith, counted area)) k
+
+    -- It was its last argument, and x is the token behind it.
+    module _ (h : arity-of (kind area) ≤ count area) (x : Lexed) (closes : expects.Reads s (closing s) (st .at) x) where
+      last : arity-of (kind area) ≤ length (frame-at area d .children)
+      last = omega (arith, counted area, arity-at-most-six (kind area))
+
+      pub unclosed-step : (r : Refusal) → x ≡ Lexed.Refused r → outcome s table work st ≡ refused r
+      unclosed-step r e = close-refused s table work st d have deep i area frames last r (closes (st .rows) ∙ ap (lexed s (st .rows)) e)
+
+      pub close-step : (t : Token) (f : TermFrame) (r : Step) (table₁ : List ℕ) → x ≡ Lexed.Got t → f ≡ term-frame area d → length area ≡ length work
+          → r ≡ pushed-term table (st .rows) (t .end) d
+          → table₁ ≡ stored-at 8 table (st .rows) (surface-row (record { label = f .label; children = take (f .len) (f .args) }))
+          → Stepped s table work st r table₁ area
+      unfolding frame-at
+      close-step t f r table₁ e g k z u =
+          let b = closes (st .rows) ∙ ap (lexed s (st .rows)) e in
+          let a = close-ahead s _ _ _ b in
+          push-stepped s table work st (frame-at area d .label) (frame-at area d .children) (t .end) d area (close-same s table work st d have deep i area frames last t (t .end) b)
+          i (a .past) (a .high) (omega arith) (omega arith) (others-wait s table work st d have deep i area frames) r table₁ z
+          (u ∙ ap (λ (v : TermFrame). stored-at 8 table (st .rows) (surface-row (record { label = v .label; children = take (v .len) (v .args) }))) g)

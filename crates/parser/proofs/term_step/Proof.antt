@@ -1,0 +1,90 @@
+-- `parser::term_step` meets its contract. Assumes nothing.
+use mathlib.Core.Path.{sym, _∙_, ap}
+use Rattle.rows.specs.Places.{stored-at}
+use Rattle.parser.specs.TermRows.{refused}
+use Rattle.parser.proofs.Steps.{refused-step, leaf-step, open-step, deep-step}
+use borrow.Author.Needs.{needs}
+use Rattle.parser.proofs.term_step.Statement.{statement}
+use Rattle.parser.proofs.term_step.Tie as tie
+
+begin-term-requires : tie.Need-begin-term-requires
+begin-term-requires c κs = search needs
+
+enum-known-begun : tie.Need-enum-known-begun
+enum-known-begun c = search needs
+
+enum-known-begun-2 : tie.Need-enum-known-begun-2
+enum-known-begun-2 c = search needs
+
+surface-row-requires : tie.Need-surface-row-requires
+surface-row-requires c κs = search needs
+
+push-term-requires : tie.Need-push-term-requires
+push-term-requires c κs = search needs
+
+enum-known-begun-3 : tie.Need-enum-known-begun-3
+enum-known-begun-3 c = search needs
+
+open-frame-requires : tie.Need-open-frame-requires
+open-frame-requires c κs = search needs
+
+add-t22 : tie.Need-add-t22
+add-t22 c = search needs
+
+same-length : tie.Need-same-length
+same-length c = search needs
+
+returns : tie.Need-returns
+returns c =
+    let o = c .before .before .before .before .before .before .before .before .before .before .before .before in
+    let k = c .before .before .before .open-frame in
+    open-step (o .args .s .now) (o .args .table .now) (o .args .work .now) (o .args .st) (o .pre .0) _ (o .pre .1) (c .before .before .before .before .before .before .before .before .begin-term .ensures) _ _ _ _
+    (c .before .before .before .before .before .before .begun3 .given .1) (sym (k .ensures .0) ∙ c .if1 .taken) (k .ensures .1) (k .kept .0)
+
+refusal-requires : tie.Need-refusal-requires
+refusal-requires c κs = search needs
+
+returns-2 : tie.Need-returns-2
+returns-2 c =
+    let o = c .before .before .before .before .before .before .before in
+    refused-step (o .args .s .now) (o .args .table .now) (o .args .work .now) (o .args .st) (o .pre .0) _ (o .pre .1) (c .before .before .before .begin-term .ensures) _ (c .before .begun .given .1)
+
+same-length-2 : tie.Need-same-length-2
+same-length-2 c = search needs
+
+returns-3 : tie.Need-returns-3
+returns-3 c =
+    let o = c .before .before .before .before .before .before .before .before .before .before .before .before in
+    let k = c .before .before .push-term in
+    leaf-step (o .args .s .now) (o .args .table .now) (o .args .work .now) (o .args .st) (o .pre .0) _ (o .pre .1) (c .before .before .before .before .before .before .before .before .begin-term .ensures) _ _ _ _
+    (c .before .before .before .before .before .before .begun2 .given .1) (k .ensures .0) (k .ensures .1 ∙ ap (stored-at 8 (o .args .table .now) (o .args .st .rows)) (c .before .before .before .before .surface-row .ensures))
+
+same-length-3 : tie.Need-same-length-3
+same-length-3 c = search needs
+
+returns-4 : tie.Need-returns-4
+returns-4 c =
+    let o = c .before .before .before .before .before .before .before .before .before .before .before .before .before in
+    deep-step (o .args .s .now) (o .args .table .now) (o .args .work .now) (o .args .st) (o .pre .0) _ (o .pre .1) (c .before .before .before .before .before .before .before .before .before .begin-term .ensures) _ _ _
+    (c .before .before .before .before .before .before .before .begun3 .given .1) (sym (c .before .before .before .before .open-frame .ensures .0) ∙ c .before .if1 .left) ∙ ap refused (sym (c .refusal .ensures))
+
+pub term-step-spec : {M : Type 1} → statement M
+term-step-spec =
+    tie.close
+    (tie.spec
+    begin-term-requires
+    enum-known-begun
+    enum-known-begun-2
+    surface-row-requires
+    push-term-requires
+    enum-known-begun-3
+    open-frame-requires
+    add-t22
+    same-length
+    returns
+    refusal-requires
+    returns-2
+    same-length-2
+    returns-3
+    same-length-3
+    returns-4)

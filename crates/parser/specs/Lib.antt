@@ -1,0 +1,2 @@
+pub mod TermRows
+pub mod Machine

@@ -1,0 +1,202 @@
+// The reader of terms and declarations: a loop over a state by value, with rows and open frames in lent tables.
+// The port of `Parser` in surface/parser.rs.
+use expects::Begun;
+use token::Lexed;
+use token::Place;
+use token::Refusal;
+ghost use mathlib.Core.Path.{_≡_};
+ghost use mathlib.Core.Bool.{true, false};
+ghost use Prim.Native.Nat.{_<_, _≤_};
+ghost use Rattle.rows.specs.Places.{stored-at};
+ghost use Rattle.surface.specs.Reader.{nowhere};
+ghost use Rattle.parser.specs.Machine.{pushed-term, ended, Inside, Stepped, ready, ReadsTerm};
+
+// Between two steps of reading a term: where reading goes on, how many rows are stored, how many frames are open,
+// and whether a term has just been completed, with its row.
+pub struct State {
+    pub at: usize,
+    pub rows: usize,
+    pub depth: usize,
+    pub value: u32,
+    pub have: bool,
+}
+
+pub enum Step {
+    Go(State),
+    Refused(Refusal),
+}
+
+// A term that was read: its row, how many rows are stored, and where reading goes on; or the refusal.
+pub enum TermRead {
+    Done { row: u32, rows: usize, next: usize },
+    Refused(Refusal),
+}
+
+fn refusal(class: u8) -> Refusal
+    ensures { λ r. ⌜ r ≡ nowhere class ⌝ }
+{
+    Refusal {
+        class: class,
+        place: Place::Nowhere,
+    }
+}
+
+// A completed term becomes the next row.
+fn push_term(table: &mut [u32], rows: usize, row: [u32; 8], at: usize, depth: usize) -> Step
+    requires { ⌜ rows ≤ 65535 ⌝ }
+    ensures { λ r. ⌜ r ≡ pushed-term (now (table .entry)) rows at depth ⌝ }
+    ensures { λ r. ⌜ now (table .exit) ≡ stored-at 8 (now (table .entry)) rows row ⌝ }
+{
+    if rows::store_row(table, rows, row) {
+        return Step::Go(State {
+            at: at,
+            rows: rows + 1,
+            depth: depth,
+            value: rows as u32,
+            have: true,
+        });
+    }
+    Step::Refused(refusal(8))
+}
+
+// A term is to be read: all of it, or a new frame.
+fn term_step(s: &[u8], table: &mut [u32], work: &mut [u32], st: State) -> Step
+    requires { ⌜ Inside (now s) (now work) st ⌝ }
+    requires { ⌜ st .have ≡ false ⌝ }
+    ensures { λ r. ⌜ Stepped (now (s .entry)) (now (table .entry)) (now (work .entry)) st r (now (table .exit)) (now (work .exit)) ⌝ }
+{
+    let at = st.at;
+    let rows = st.rows;
+    let depth = st.depth;
+    let begun = expects::begin_term(s, at);
+    match begun {
+        Begun::Refused(r) => Step::Refused(r),
+        Begun::Leaf(label, next) => {
+            let none = [0u32; 6];
+            let row = rows::surface_row(label, none, 0);
+            push_term(table, rows, row, next, depth)
+        }
+        Begun::Frame(label, _, next) => {
+            if frames::open_frame(work, depth, label) {
+                return Step::Go(State {
+                    at: next,
+                    rows: rows,
+                    depth: depth + 1,
+                    value: 0,
+                    have: false,
+                });
+            }
+            Step::Refused(refusal(7))
+        }
+    }
+}
+
+// A term is complete and a frame is open, which takes it. With its last argument the form is complete.
+fn value_step(s: &[u8], table: &mut [u32], work: &mut [u32], st: State) -> Step
+    requires { ⌜ Inside (now s) (now work) st ⌝ }
+    requires { ⌜ st .have ≡ true ⌝ }
+    requires { ⌜ 0 < st .depth ⌝ }
+    ensures { λ r. ⌜ Stepped (now (s .entry)) (now (table .entry)) (now (work .entry)) st r (now (table .exit)) (now (work .exit)) ⌝ }
+{
+    let at = st.at;
+    let rows = st.rows;
+    let depth = st.depth;
+    let d = depth - 1;
+    frames::push_arg(work, d, st.value);
+    let len = frames::frame_len(work, d);
+    let kind = frames::frame_kind(work, d);
+    if len < rows::arity(kind) {
+        return Step::Go(State {
+            at: at,
+            rows: rows,
+            depth: depth,
+            value: 0,
+            have: false,
+        });
+    }
+    let close = expects::expect_rparen(s, at);
+    match close {
+        Lexed::Refused(r) => Step::Refused(r),
+        Lexed::Got(t) => {
+            let f = frames::load_frame(work, d);
+            let label = f.label;
+            let args = f.args;
+            let row = rows::surface_row(label, args, f.len);
+            push_term(table, rows, row, t.end, d)
+        }
+    }
+}
+
+// A term to be read, or one that an open frame takes.
+fn next_step(s: &[u8], table: &mut [u32], work: &mut [u32], st: State) -> Step
+    requires { ⌜ Inside (now s) (now work) st ⌝ }
+    requires { ⌜ ended st ≡ false ⌝ }
+    ensures { λ r. ⌜ Stepped (now (s .entry)) (now (table .entry)) (now (work .entry)) st r (now (table .exit)) (now (work .exit)) ⌝ }
+{
+    let have = st.have;
+    if have {
+        return value_step(s, table, work, st);
+    }
+    term_step(s, table, work, st)
+}
+
+// A term is complete and no frame is open.
+fn is_ended(st: State) -> bool
+    ensures { λ r. ⌜ r ≡ ended st ⌝ }
+{
+    let have = st.have;
+    if have {
+        return st.depth == 0;
+    }
+    false
+}
+
+// The bounds that loading has tested before it reads; a call outside them reads nothing.
+fn is_ready(source: usize, area: usize, at: usize, rows: usize) -> bool
+    ensures { λ r. ⌜ r ≡ ready source area at rows ⌝ }
+{
+    if 65535 < source {
+        return false;
+    }
+    if area < 16384 {
+        return false;
+    }
+    if source < at {
+        return false;
+    }
+    rows <= at
+}
+
+// The port of `parse_term`: a whole type or body from `at` on, behind the rows that are stored.
+pub fn read_term(s: &[u8], table: &mut [u32], work: &mut [u32], at: usize, rows: usize) -> TermRead
+    ensures { λ r. ⌜ ReadsTerm (now (s .entry)) (now (table .entry)) (now (work .entry)) at rows r (now (table .exit)) ⌝ }
+{
+    if !is_ready(s.len(), work.len(), at, rows) {
+        return TermRead::Refused(refusal(11));
+    }
+    let mut st = State {
+        at: at,
+        rows: rows,
+        depth: 0,
+        value: 0,
+        have: false,
+    };
+    loop {
+        if is_ended(st) {
+            return TermRead::Done {
+                row: st.value,
+                rows: st.rows,
+                next: st.at,
+            };
+        }
+        let r = next_step(s, table, work, st);
+        match r {
+            Step::Go(t) => {
+                st = t;
+            }
+            Step::Refused(x) => {
+                return TermRead::Refused(x);
+            }
+        }
+    }
+}
