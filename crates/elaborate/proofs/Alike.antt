@@ -1,0 +1,107 @@
+-- Resolution looks at a label's kind, and at its start and length only where the kind has a span. Assumes nothing.
+use Prim.Native.Nat.{ℕ}
+use mathlib.Core.Path.{_≡_, refl, sym, _∙_, ap, ap₂}
+use mathlib.Core.List.{List, [], _∷_, _++_}
+use mathlib.Core.Bool.{Bool, true, false, cond}
+use native.Mathlib.Omega.{arith}
+use native.Mathlib.Decide.{ℕ-discrete}
+use borrow.Author.Tests.{eq-eqb, ne-eqb}
+use lib.Dec.{eqb}
+use Rattle.terms.specs.Forms.{universe, pi, lam, sigma, ref, forms, form-of-kind, has-atom, holds-span}
+use Rattle.terms.specs.Label.{Name, part, Label}
+use Rattle.terms.specs.Resolution.{Core, kept, var, global, unknown, core-of, covers, locals-in, is-unknown}
+use Rattle.terms.specs.Rows.{row, span, core-words}
+use Rattle.scope.specs.Scope.{reference}
+use Rattle.elaborate.proofs.Covering.{covers-none}
+use Rattle.elaborate.proofs.Visiting.{core-of-ref, core-of-kept}
+
+-- Which kinds have a span: those of a reference, a universe, and what covers an argument.
+span-ref : holds-span ref ≡ true
+unfolding holds-span form-of-kind forms
+span-ref = refl
+
+span-universe : holds-span universe ≡ true
+unfolding holds-span form-of-kind forms
+span-universe = refl
+
+span-pi : holds-span pi ≡ true
+unfolding holds-span form-of-kind forms
+span-pi = refl
+
+span-sigma : holds-span sigma ≡ true
+unfolding holds-span form-of-kind forms
+span-sigma = refl
+
+span-lam : holds-span lam ≡ true
+unfolding holds-span form-of-kind forms
+span-lam = refl
+
+not-both : {A : Type 0} (b : Bool) → b ≡ true → b ≡ false → A
+not-both b p q = absurd (let z : _≡_ {A = ℕ} 0 1 = ap (λ (x : Bool). cond x 0 1) (sym p ∙ q) in omega arith)
+
+span-covers : (k i : ℕ) → covers k i ≡ true → holds-span k ≡ true
+span-covers k i h = go (ℕ-discrete k pi) (ℕ-discrete k sigma) (ℕ-discrete k lam)
+  where
+    go : Dec (k ≡ pi) → Dec (k ≡ sigma) → Dec (k ≡ lam) → holds-span k ≡ true
+    go (yes p) q r = ap holds-span p ∙ span-pi
+    go (no p) (yes q) r = ap holds-span q ∙ span-sigma
+    go (no p) (no q) (yes r) = ap holds-span r ∙ span-lam
+    go (no p) (no q) (no r) = not-both (covers k i) h (covers-none k i p q r)
+
+-- The label l' is read from the row of the label l.
+pub record Alike (l' l : Label) : Type 0 where
+  pub kind : l' .kind ≡ l .kind
+  pub span : holds-span (l .kind) ≡ true → (l' .start ≡ l .start) × (l' .length ≡ l .length)
+
+module _ (s : List ℕ) (l' l : Label) (a : Alike l' l) where
+  module _ (locals globals : List Name) where
+    abbrev core' : Core
+    core' = core-of s locals globals l'
+
+    abbrev core : Core
+    core = core-of s locals globals l
+
+    pub same-core : core' ≡ core
+    same-core = go (ℕ-discrete (l .kind) ref)
+      where
+        go : Dec (l .kind ≡ ref) → core' ≡ core
+        go (yes e) =
+            let p = a .span (ap holds-span e ∙ span-ref) in
+            core-of-ref s locals globals l' (a .kind ∙ e)
+            ∙ ap₂ (λ (x n : ℕ). core-of s locals globals (reference x n)) (p .0) (p .1)
+            ∙ sym (core-of-ref s locals globals l e)
+        go (no e) = core-of-kept s locals globals l' (λ q. e (sym (a .kind) ∙ q)) ∙ sym (core-of-kept s locals globals l e)
+
+    -- Only a reference is unknown.
+    pub same-unknown : is-unknown core ≡ true → (l' .start ≡ l .start) × (l' .length ≡ l .length)
+    same-unknown h = go (ℕ-discrete (l .kind) ref)
+      where
+        go : Dec (l .kind ≡ ref) → (l' .start ≡ l .start) × (l' .length ≡ l .length)
+        go (yes e) = a .span (ap holds-span e ∙ span-ref)
+        go (no e) = not-both (is-unknown core) h (ap is-unknown (core-of-kept s locals globals l e))
+
+  pub same-locals : (locals : List Name) (i : ℕ) → locals-in s l' locals i ≡ locals-in s l locals i
+  same-locals locals i = ap (λ (k : ℕ). cond (covers k i) (part s (l' .start) (l' .length) ∷ locals) locals) (a .kind) ∙ go (covers (l .kind) i) refl
+    where
+      go : (b : Bool) → covers (l .kind) i ≡ b → cond b (part s (l' .start) (l' .length) ∷ locals) locals ≡ cond b (part s (l .start) (l .length) ∷ locals) locals
+      go false e = refl
+      go true e =
+          let p = a .span (span-covers (l .kind) i e) in
+          ap₂ (λ (x n : ℕ). part s x n ∷ locals) (p .0) (p .1)
+
+  pub same-words : (c : Core) (ids : List ℕ) → core-words l' c ids ≡ core-words l c ids
+  same-words kept ids = ap (λ (k : ℕ). row k (cond (eqb k universe) (span l') [] ++ ids)) (a .kind) ∙ go (ℕ-discrete (l .kind) universe)
+    where
+      words : Bool → Label → List ℕ
+      words b m = row (l .kind) (cond b (span m) [] ++ ids)
+
+      go : Dec (l .kind ≡ universe) → words (eqb (l .kind) universe) l' ≡ words (eqb (l .kind) universe) l
+      go (yes e) =
+          let p = a .span (ap holds-span e ∙ span-universe) in
+          ap₂ (λ (x n : ℕ). row (l .kind) (cond (eqb (l .kind) universe) (x ∷ n ∷ []) [] ++ ids)) (p .0) (p .1)
+      go (no e) =
+          let q = ne-eqb (l .kind) universe e in
+          ap (λ (b : Bool). words b l') q ∙ ap (λ (b : Bool). words b l) (sym q)
+  same-words (var i) ids = refl
+  same-words (global j) ids = refl
+  same-words unknown ids = refl

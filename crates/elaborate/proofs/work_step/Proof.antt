@@ -1,0 +1,142 @@
+-- `work_step` meets its contract. Assumes nothing.
+use native.Mathlib.Omega.{arith}
+use Rattle.elaborate.specs.declared.Step.{Step}
+use Rattle.elaborate.proofs.Steps.{top-item, top-room, top-stepped, below, build-bounds, push-bound, pop-bound, build-stepped, push-stepped, pop-stepped}
+use borrow.Author.Needs.{needs}
+use Rattle.elaborate.proofs.work_step.Statement.{statement}
+use Rattle.elaborate.proofs.work_step.Tie as tie
+
+sub-t : tie.Need-sub-t
+sub-t c = search needs
+
+pop-work-requires : tie.Need-pop-work-requires
+pop-work-requires c κs = search needs
+
+enum-known-item : tie.Need-enum-known-item
+enum-known-item c = search needs
+
+eval-requires : tie.Need-eval-requires
+eval-requires c κs =
+    let o = c .before .before .before .before .before .before .before .before .before .before .before .before .before in
+    let a = o .args in
+    let e = top-item (a .work .now) (a .st .works) _ _ (o .pre .1 .1 .0) (c .before .before .before .before .before .pop-work .ensures (omega arith)) (c .before .before .before .item .given .1) in
+    let r = top-room _ _ (a .st) e (o .pre .1 .0) in
+    (o .pre .0, r)
+
+enum-known-item-2 : tie.Need-enum-known-item-2
+enum-known-item-2 c = search needs
+
+push-local-requires : tie.Need-push-local-requires
+push-local-requires c κs = search needs
+
+add-t30 : tie.Need-add-t30
+add-t30 c =
+    let o = c .before .before .before .before .before .before .before .before .before .before .before .before .before .before .before in
+    let a = o .args in
+    let e = top-item (a .work .now) (a .st .works) _ _ (o .pre .1 .1 .0) (c .before .before .before .before .before .before .before .pop-work .ensures (omega arith)) (c .before .before .before .before .before .item2 .given .1) in
+    let r = top-room _ _ (a .st) e (o .pre .1 .0) in
+    omega (arith, push-bound _ _ _ _ _ r)
+
+enum-told : tie.Need-enum-told
+enum-told c = search needs
+
+sub-t32 : tie.Need-sub-t32
+sub-t32 c =
+    let o = c .before .before .before .before .before .before .before .before .before .before in
+    let a = o .args in
+    let e = top-item (a .work .now) (a .st .works) _ _ (o .pre .1 .1 .0) (c .before .before .pop-work .ensures (omega arith)) (c .enum-told .given .1) in
+    let r = top-room _ _ (a .st) e (o .pre .1 .0) in
+    pop-bound _ _ _ r
+
+enum-known-item-3 : tie.Need-enum-known-item-3
+enum-known-item-3 c = search needs
+
+build-term-requires : tie.Need-build-term-requires
+build-term-requires c κs =
+    let o = c .before .before .before .before .before .before .before .before .before .before .before .before .before in
+    let a = o .args in
+    let e = top-item (a .work .now) (a .st .works) _ _ (o .pre .1 .1 .0) (c .before .before .before .before .before .pop-work .ensures (omega arith)) (c .before .before .before .item3 .given .1) in
+    let r = top-room _ _ (a .st) e (o .pre .1 .0) in
+    let b = build-bounds _ _ _ _ _ r in
+    (b .0, b .1, o .pre .0 .area)
+
+same-length : tie.Need-same-length
+same-length c = search needs
+
+same-length-2 : tie.Need-same-length-2
+same-length-2 c = search needs
+
+returns : tie.Need-returns
+returns c =
+    let o = c .before .before .before .before .before .before .before .before .before .before .before .before .before .before .before .before .before .before in
+    let a = o .args in
+    let e = top-item (a .work .now) (a .st .works) _ _ (o .pre .1 .1 .0) (c .before .before .before .before .before .before .before .before .before .before .pop-work .ensures (omega arith)) (c .before .before .before .before .before .before .before .before .item .given .1) in
+    let r = top-room _ _ (a .st) e (o .pre .1 .0) in
+    let k = c .before .before .before .before .eval in
+    top-stepped (a .s .now) (a .surface .now) (a .declarations .now) (a .rows) (a .d) (a .core .now) (a .work .now) (a .st) _ (k .result) (k .last .1 .1 .1 .0) (k .last .1 .1 .1 .1 .0) e (k .ensures)
+
+same-length-3 : tie.Need-same-length-3
+same-length-3 c = search needs
+
+returns-2 : tie.Need-returns-2
+returns-2 c =
+    let o = c .before .before .before .before .before .before .before .before .before .before .before .before .before .before .before in
+    let a = o .args in
+    let e = top-item (a .work .now) (a .st .works) _ _ (o .pre .1 .1 .0) (c .before .before .before .before .before .before .before .pop-work .ensures (omega arith)) (c .before .before .before .before .before .item2 .given .1) in
+    let r = top-room _ _ (a .st) e (o .pre .1 .0) in
+    let k = c .before .before .push-local in
+    top-stepped (a .s .now) (a .surface .now) (a .declarations .now) (a .rows) (a .d) (a .core .now) (a .work .now) (a .st) _ (Step.Go _) (a .core .now) (k .last .0) e
+    (push-stepped (a .s .now) (a .surface .now) (a .declarations .now) (a .rows) (a .d) (a .core .now) (a .work .now) (below (a .st)) _ _ (k .last .0) (omega arith) r (k .ensures (push-bound _ _ _ _ _ r) (o .pre .0 .area)))
+
+same-length-4 : tie.Need-same-length-4
+same-length-4 c = search needs
+
+returns-3 : tie.Need-returns-3
+returns-3 c =
+    let o = c .before .before .before .before .before .before .before .before .before .before in
+    let a = o .args in
+    let e = top-item (a .work .now) (a .st .works) _ _ (o .pre .1 .1 .0) (c .before .before .pop-work .ensures (omega arith)) (c .enum-told .given .1) in
+    let r = top-room _ _ (a .st) e (o .pre .1 .0) in
+    top-stepped (a .s .now) (a .surface .now) (a .declarations .now) (a .rows) (a .d) (a .core .now) (a .work .now) (a .st) _ (Step.Go _) (a .core .now) (a .work .now) e (pop-stepped (a .s .now) (a .surface .now) (a .declarations .now) (a .rows) (a .d) (a .core .now) (a .work .now) (below (a .st)) (omega arith) r)
+
+same-length-5 : tie.Need-same-length-5
+same-length-5 c = search needs
+
+same-length-6 : tie.Need-same-length-6
+same-length-6 c = search needs
+
+returns-4 : tie.Need-returns-4
+returns-4 c =
+    let o = c .before .before .before .before .before .before .before .before .before .before .before .before .before .before .before .before .before .before in
+    let a = o .args in
+    let e = top-item (a .work .now) (a .st .works) _ _ (o .pre .1 .1 .0) (c .before .before .before .before .before .before .before .before .before .before .pop-work .ensures (omega arith)) (c .before .before .before .before .before .before .before .before .item3 .given .1) in
+    let r = top-room _ _ (a .st) e (o .pre .1 .0) in
+    let k = c .before .before .before .before .build-term in
+    top-stepped (a .s .now) (a .surface .now) (a .declarations .now) (a .rows) (a .d) (a .core .now) (a .work .now) (a .st) _ (Step.Go (k .result)) (k .last .0) (k .last .1 .0) e
+    (build-stepped (a .s .now) (a .surface .now) (a .declarations .now) (a .rows) (a .d) (a .core .now) (a .work .now) (below (a .st)) _ _ (k .result) (k .last .0) (k .last .1 .0) (omega arith) r (k .ensures))
+
+pub work-step-spec : {M : Type 1} → statement M
+work-step-spec =
+    tie.close
+    (tie.spec
+    sub-t
+    pop-work-requires
+    enum-known-item
+    eval-requires
+    enum-known-item-2
+    push-local-requires
+    add-t30
+    enum-told
+    sub-t32
+    enum-known-item-3
+    build-term-requires
+    same-length
+    same-length-2
+    returns
+    same-length-3
+    returns-2
+    same-length-4
+    returns-3
+    same-length-5
+    same-length-6
+    returns-4)

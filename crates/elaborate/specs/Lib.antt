@@ -1,0 +1,4 @@
+pub mod RowTerm
+pub mod Machine
+pub mod Loadable
+pub mod Declarations

@@ -1,0 +1,117 @@
+-- The stack of work items of `elaborate_term`: what it comes to, the room that it takes, and how long it goes on. Assumes nothing.
+use Prim.Native.Nat.{ℕ, zero, suc, _+_, _-_, _*_, _≤_, _<_}
+use mathlib.Core.Path.{_≡_}
+use mathlib.Core.List.{List, [], _∷_, _++_}
+use mathlib.Core.Bool.{Bool, true, false, cond}
+use lib.ListN.{length, take, drop}
+use Rattle.terms.specs.Forms.{arity-of}
+use Rattle.terms.specs.Label.{Name, part, Label}
+use Rattle.terms.specs.Resolution.{Core, kept, covers, is-unknown}
+use Rattle.terms.specs.Rows.{core-words}
+use Rattle.rows.specs.Places.{stored-at}
+use Rattle.scope.specs.Scope.{local-names, reference}
+use Rattle.stacks.specs.Stacks.{works-in, values-in, WorkArea, ValuePushed}
+use Rattle.stacks.specs.declared.Work.{Work}
+use Rattle.elaborate.specs.RowTerm.{Outcome, done, unknown-at, and-then, row-term}
+use Rattle.elaborate.specs.declared.State.{State}
+use Rattle.elaborate.specs.declared.Step.{Step}
+use Rattle.elaborate.specs.declared.TermDone.{TermDone}
+
+abbrev pub form-label : ℕ → Label
+form-label k = record { kind = k; start = 0; length = 0; offset = 0 }
+
+abbrev pub Six : List ℕ → Type 0
+Six l = length l ≡ 6
+
+-- Without the innermost name.
+abbrev pub outer : List Name → List Name
+outer [] = []
+outer (x ∷ l) = l
+
+-- An argument's work items on top of others: where the binder covers it, its name is in scope meanwhile.
+abbrev pub scheduled-one : Bool → ℕ → ℕ → ℕ → ℕ → List Work → List Work
+scheduled-one true a n left id works = Work.PushLocal a n ∷ Work.Eval id left ∷ Work.PopLocal ∷ works
+scheduled-one false a n left id works = Work.Eval id left ∷ works
+
+-- The arguments of a form of kind k from argument i on, the first on top.
+unfoldable pub scheduled : ℕ → ℕ → ℕ → ℕ → ℕ → List ℕ → List Work → List Work
+scheduled k a n left i [] works = works
+scheduled k a n left i (id ∷ ids) works = scheduled-one (covers k i) a n left id (scheduled k a n left (suc i) ids works)
+
+-- What work items come to, with the local names, the values and the core table.
+module _ (s surface declarations : List ℕ) (rows d : ℕ) where
+  unfoldable pub run : List Work → List Name → List ℕ → List ℕ → Outcome
+  run [] locals values core = done core
+  run (Work.Eval id left ∷ works) locals values core =
+      and-then (row-term s surface declarations rows d left id locals core) (λ c. run works locals (values ++ (id ∷ [])) c)
+  run (Work.PushLocal a n ∷ works) locals values core = run works (part s a n ∷ locals) values core
+  run (Work.PopLocal ∷ works) locals values core = run works (outer locals) values core
+  run (Work.Build k id ∷ works) locals values core =
+      run works locals (take (length values - arity-of k) values ++ (id ∷ []))
+      (stored-at 8 core id (core-words (form-label k) kept (drop (length values - arity-of k) values)))
+
+-- There is room for what is to come, with v values and l names: at most 7 work items, 5 values and a name for each form that may still be opened.
+unfoldable pub Room : List Work → ℕ → ℕ → Type 0
+Room [] v l = Unit {0}
+Room (Work.Eval id left ∷ works) v l = (length works + 7 * left ≤ 3584) × (v + 5 * left ≤ 2560) × (l + left ≤ 512) × Room works (v + 1) l
+Room (Work.PushLocal a n ∷ works) v l = (l < 512) × Room works v (l + 1)
+Room (Work.PopLocal ∷ works) v l = (0 < l) × Room works v (l - 1)
+Room (Work.Build k id ∷ works) v l = (arity-of k ≤ v) × (v ≤ arity-of k + 2560) × (l ≤ 512) × Room works (v - arity-of k + 1) l
+
+-- A number that falls with each step.
+unfoldable pub form-weight : ℕ → ℕ
+form-weight zero = 1
+form-weight (suc left) = 6 * form-weight left + 14
+
+unfoldable pub weight : List Work → ℕ
+weight [] = 0
+weight (Work.Eval id left ∷ works) = form-weight left + weight works
+weight (Work.PushLocal a n ∷ works) = 1 + weight works
+weight (Work.PopLocal ∷ works) = 1 + weight works
+weight (Work.Build k id ∷ works) = 1 + weight works
+
+-- The tables are long enough, and a declaration's place fits a word.
+pub record Inside (surface work : List ℕ) (rows d : ℕ) : Type 0 where
+  pub area : WorkArea work
+  pub read : rows * 8 ≤ length surface
+  pub few : d ≤ 4294967295
+
+-- A row is stored, and its number is one more value.
+pub record RowDone (id : ℕ) (words : List ℕ) (st : State) (core work : List ℕ) (st₁ : State) (core₁ work₁ : List ℕ) : Type 0 where
+  pub row : core₁ ≡ stored-at 8 core id words
+  pub value : ValuePushed work work₁ (st .values) id
+  pub state : st₁ ≡ record { works = st .works; values = st .values + 1; locals = st .locals }
+
+-- A reference to c, by the start and length of its name: its row is stored, or it is unknown.
+abbrev pub ReferenceDone : Core → ℕ → ℕ → ℕ → State → List ℕ → List ℕ → Step → List ℕ → List ℕ → Type 0
+ReferenceDone c a n id st core work (Step.Go st₁) core₁ work₁ = (is-unknown c ≡ false) × RowDone id (core-words (reference a n) c []) st core work st₁ core₁ work₁
+ReferenceDone c a n id st core work (Step.Unknown x y) core₁ work₁ = (is-unknown c ≡ true) × (x ≡ a) × (y ≡ n)
+
+-- The state without the values of a form's arguments.
+abbrev pub without-arguments : ℕ → State → State
+without-arguments k st = record { works = st .works; values = st .values - arity-of k; locals = st .locals }
+
+-- The row of a form whose arguments are the values on top.
+abbrev pub form-row : ℕ → State → List ℕ → List ℕ
+form-row k st work = core-words (form-label k) kept (drop (st .values - arity-of k) (values-in work (st .values)))
+
+module _ (s surface declarations : List ℕ) (rows d : ℕ) where
+  -- What a state comes to whose work items are `works`.
+  abbrev pub outcome : List Work → List ℕ → State → List ℕ → Outcome
+  outcome works work st core = run s surface declarations rows d works (local-names s work (st .locals)) (values-in work (st .values)) core
+
+  -- A step to another state: it comes to the same, there is less to do, and room for it.
+  pub record Went (works : List Work) (work : List ℕ) (st : State) (core : List ℕ) (st₁ : State) (core₁ work₁ : List ℕ) : Type 0 where
+    pub same : outcome works work st core ≡ outcome (works-in work₁ (st₁ .works)) work₁ st₁ core₁
+    pub less : weight (works-in work₁ (st₁ .works)) < weight works
+    pub room : Room (works-in work₁ (st₁ .works)) (st₁ .values) (st₁ .locals)
+    pub fits : st₁ .works ≤ 3754
+
+  abbrev pub Stepped : List Work → List ℕ → State → List ℕ → Step → List ℕ → List ℕ → Type 0
+  Stepped works work st core (Step.Go st₁) core₁ work₁ = Went works work st core st₁ core₁ work₁
+  Stepped works work st core (Step.Unknown a n) core₁ work₁ = outcome works work st core ≡ unknown-at a n
+
+-- The answer, and the core table.
+abbrev pub Answered : Outcome → TermDone → List ℕ → Type 0
+Answered (done c) r core = (r ≡ TermDone.Done) × (core ≡ c)
+Answered (unknown-at a n) r core = r ≡ TermDone.Unknown a n

@@ -1,0 +1,504 @@
+// Names become numbers: each core row is written at its surface row's number, with a var or a global for each reference.
+// The port of `elaborate_surface` and `elaborate_term` in surface/elaborate.rs. Document 01, "The core module".
+ghost use mathlib.Core.Path.{_≡_};
+ghost use mathlib.Core.List.{List, [], _∷_};
+ghost use Prim.Native.Nat.{_+_, _*_, _<_, _≤_};
+ghost use lib.ListN.{length, take};
+ghost use Rattle.terms.specs.Forms.{arity-of, holds-span};
+ghost use Rattle.terms.specs.Label.{Declaration};
+ghost use Rattle.terms.specs.Resolution.{covers, core-of};
+ghost use Rattle.scope.specs.Scope.{local-names, declared-names, reference};
+ghost use Rattle.stacks.specs.Stacks.{works-in, WorkArea, WorkPushed};
+ghost use Rattle.elaborate.specs.RowTerm.{row-word, six-at, row-term};
+ghost use Rattle.elaborate.specs.Machine.{Six, scheduled-one, scheduled, Room, Inside, RowDone, ReferenceDone, without-arguments, form-row, Stepped, Answered};
+ghost use Rattle.elaborate.specs.Loadable.{Loadable, Elaborates};
+ghost use Rattle.elaborate.specs.Declarations.{Fitting, Whether, parts-outcome, declaration-outcome, Declared};
+use scope::Found;
+use scope::Referent;
+use stacks::Work;
+
+// How many work items, values and names in scope there are.
+struct State {
+    works: usize,
+    values: usize,
+    locals: usize,
+}
+
+enum Step {
+    Go(State),
+    Unknown { start: u32, length: u32 },
+}
+
+// A term is resolved, or this reference is unknown.
+enum TermDone {
+    Done,
+    Unknown { start: u32, length: u32 },
+}
+
+// Every declaration is resolved, or this name is refused with this class: 4 where an earlier declaration has it, 5 where nothing has it.
+pub enum Elaborated {
+    Done,
+    Refused { class: u8, start: u32, length: u32 },
+}
+
+// Whether a form's binder covers its argument i.
+fn covers(kind: u32, i: usize) -> bool
+    ensures { λ r. ⌜ r ≡ covers kind i ⌝ }
+{
+    match kind {
+        4 | 7 => i == 1,
+        5 => i == 0,
+        _ => false,
+    }
+}
+
+// The words of a surface row that can hold children: behind a span there are at most two.
+fn row_children(surface: &[u32], id: usize, span: bool) -> [u32; 6]
+    requires { ⌜ id * 8 + 8 ≤ length (now surface) ⌝ }
+    ensures { λ r. ⌜ r ≡ six-at (now (surface .entry)) id span ⌝ }
+{
+    let a = id * 8;
+    if span {
+        return [surface[a + 3], surface[a + 4], 0, 0, 0, 0];
+    }
+    [
+        surface[a + 1],
+        surface[a + 2],
+        surface[a + 3],
+        surface[a + 4],
+        surface[a + 5],
+        surface[a + 6],
+    ]
+}
+
+// One argument on top of t work items.
+fn schedule_one(
+    work: &mut [u32],
+    t: usize,
+    covered: bool,
+    start: u32,
+    length: u32,
+    row: u32,
+    left: u32,
+) -> usize
+    requires { ⌜ (t + 3 ≤ 3754) × WorkArea (now work) ⌝ }
+    ensures { λ r. ⌜ (r ≤ t + 3) × WorkPushed (now (work .entry)) (now (work .exit)) r (scheduled-one covered start length left row (works-in (now (work .entry)) t)) ⌝ }
+{
+    if covered {
+        let t1 = t + 1;
+        let t2 = t + 2;
+        stacks::push_work(work, t, Work::PopLocal);
+        stacks::push_work(work, t1, Work::Eval { row, left });
+        stacks::push_work(work, t2, Work::PushLocal { start, length });
+        return t + 3;
+    }
+    stacks::push_work(work, t, Work::Eval { row, left });
+    t + 1
+}
+
+// A form's n arguments on top of t work items, the first on top.
+fn schedule(
+    work: &mut [u32],
+    t: usize,
+    kind: u32,
+    start: u32,
+    length: u32,
+    children: [u32; 6],
+    n: usize,
+    left: u32,
+) -> usize
+    requires { ⌜ (n ≤ 6) × Six children × (t + 18 ≤ 3754) × WorkArea (now work) ⌝ }
+    ensures { λ r. ⌜ WorkPushed (now (work .entry)) (now (work .exit)) r (scheduled kind start length left 0 (take n children) (works-in (now (work .entry)) t)) ⌝ }
+{
+    let mut i = n;
+    let mut top = t;
+    while 0 < i {
+        let k = i - 1;
+        let covered = covers(kind, k);
+        let row = children[k];
+        top = schedule_one(work, top, covered, start, length, row, left);
+        i -= 1;
+    }
+    top
+}
+
+// A form's arguments on top of its Build.
+fn schedule_form(
+    surface: &[u32],
+    work: &mut [u32],
+    t: usize,
+    kind: u32,
+    id: u32,
+    left: u32,
+) -> usize
+    requires { ⌜ (id * 8 + 8 ≤ length (now surface)) × (t + 19 ≤ 3754) × WorkArea (now work) ⌝ }
+    ensures { λ r. ⌜ WorkPushed (now (work .entry)) (now (work .exit)) r (scheduled kind (row-word (now (surface .entry)) id 1) (row-word (now (surface .entry)) id 2) left 0 (take (arity-of kind) (six-at (now (surface .entry)) id (holds-span kind))) (Work.Build kind id ∷ works-in (now (work .entry)) t)) ⌝ }
+{
+    let k = id as usize;
+    let a = k * 8;
+    let start = surface[a + 1];
+    let length = surface[a + 2];
+    let n = rows::arity(kind) as usize;
+    let span = rows::holds_span(kind);
+    let children = row_children(surface, k, span);
+    stacks::push_work(work, t, Work::Build { kind, row: id });
+    schedule(work, t + 1, kind, start, length, children, n, left)
+}
+
+// A core row is stored at its own number, which becomes one more value.
+fn finish(core: &mut [u32], work: &mut [u32], st: State, id: u32, row: [u32; 8]) -> State
+    requires { ⌜ (st .values < 3072) × WorkArea (now work) ⌝ }
+    ensures { λ r. ⌜ RowDone id row st (now (core .entry)) (now (work .entry)) r (now (core .exit)) (now (work .exit)) ⌝ }
+{
+    let k = id as usize;
+    let t = st.works;
+    let v = st.values;
+    let l = st.locals;
+    rows::store_row(core, k, row);
+    stacks::push_value(work, v, id);
+    State {
+        works: t,
+        values: v + 1,
+        locals: l,
+    }
+}
+
+// A reference becomes a var or a global.
+fn eval_reference(
+    s: &[u8],
+    declarations: &[u32],
+    core: &mut [u32],
+    work: &mut [u32],
+    st: State,
+    id: u32,
+    d: usize,
+    start: u32,
+    length: u32,
+) -> Step
+    requires { ⌜ (st .locals ≤ 512) × (st .values < 3072) × (d ≤ 4294967295) × WorkArea (now work) ⌝ }
+    ensures { λ r. ⌜ ReferenceDone (core-of (now (s .entry)) (local-names (now (s .entry)) (now (work .entry)) (st .locals)) (declared-names (now (s .entry)) (now (declarations .entry)) 0 d) (reference start length)) start length id st (now (core .entry)) (now (work .entry)) r (now (core .exit)) (now (work .exit)) ⌝ }
+{
+    let l = st.locals;
+    let r = scope::find_name(s, work, declarations, l, d, start, length);
+    match r {
+        Referent::Var(count) => {
+            let row = rows::reference_row(1, count);
+            Step::Go(finish(core, work, st, id, row))
+        }
+        Referent::Global(place) => {
+            let row = rows::reference_row(2, place);
+            Step::Go(finish(core, work, st, id, row))
+        }
+        Referent::Unknown => Step::Unknown { start, length },
+    }
+}
+
+// The row of a form whose arguments' rows are the values on top.
+fn build_term(core: &mut [u32], work: &mut [u32], st: State, kind: u32, id: u32) -> State
+    requires { ⌜ (arity-of kind ≤ st .values) × (st .values ≤ arity-of kind + 2560) × WorkArea (now work) ⌝ }
+    ensures { λ r. ⌜ RowDone id (form-row kind st (now (work .entry))) (without-arguments kind st) (now (core .entry)) (now (work .entry)) r (now (core .exit)) (now (work .exit)) ⌝ }
+{
+    let t = st.works;
+    let l = st.locals;
+    let n = rows::arity(kind);
+    let v = st.values - n as usize;
+    let values = stacks::pop_values(work, v, n as usize);
+    let row = rows::core_row(kind, 0, 0, values, n);
+    let below = State {
+        works: t,
+        values: v,
+        locals: l,
+    };
+    finish(core, work, below, id, row)
+}
+
+// A row is to be resolved, in which `left` forms may still be opened. A row that is not there and a form too many, which no table that was
+// read has, count as an unknown reference without a name.
+fn eval(
+    s: &[u8],
+    surface: &[u32],
+    declarations: &[u32],
+    core: &mut [u32],
+    work: &mut [u32],
+    st: State,
+    id: u32,
+    left: u32,
+    rows: usize,
+    d: usize,
+) -> Step
+    requires { ⌜ Inside (now surface) (now work) rows d ⌝ }
+    requires { ⌜ Room (Work.Eval id left ∷ works-in (now work) (st .works)) (st .values) (st .locals) ⌝ }
+    ensures { λ r. ⌜ Stepped (now (s .entry)) (now (surface .entry)) (now (declarations .entry)) rows d (Work.Eval id left ∷ works-in (now (work .entry)) (st .works)) (now (work .entry)) st (now (core .entry)) r (now (core .exit)) (now (work .exit)) ⌝ }
+{
+    let k = id as usize;
+    if rows <= k {
+        return Step::Unknown {
+            start: 0,
+            length: 0,
+        };
+    }
+    let a = k * 8;
+    let kind = surface[a];
+    let start = surface[a + 1];
+    let length = surface[a + 2];
+    if kind == 24 {
+        return eval_reference(s, declarations, core, work, st, id, d, start, length);
+    }
+    let n = rows::arity(kind);
+    if n == 0 {
+        let row = rows::core_row(kind, start, length, [0, 0, 0, 0, 0, 0], 0);
+        return Step::Go(finish(core, work, st, id, row));
+    }
+    if left == 0 {
+        return Step::Unknown {
+            start: 0,
+            length: 0,
+        };
+    }
+    let t = st.works;
+    let v = st.values;
+    let l = st.locals;
+    let top = schedule_form(surface, work, t, kind, id, left - 1);
+    Step::Go(State {
+        works: top,
+        values: v,
+        locals: l,
+    })
+}
+
+// The work item on top.
+fn work_step(
+    s: &[u8],
+    surface: &[u32],
+    declarations: &[u32],
+    core: &mut [u32],
+    work: &mut [u32],
+    st: State,
+    rows: usize,
+    d: usize,
+) -> Step
+    requires { ⌜ Inside (now surface) (now work) rows d ⌝ }
+    requires { ⌜ Room (works-in (now work) (st .works)) (st .values) (st .locals) ⌝ }
+    requires { ⌜ (0 < st .works) × (st .works ≤ 3754) ⌝ }
+    ensures { λ r. ⌜ Stepped (now (s .entry)) (now (surface .entry)) (now (declarations .entry)) rows d (works-in (now (work .entry)) (st .works)) (now (work .entry)) st (now (core .entry)) r (now (core .exit)) (now (work .exit)) ⌝ }
+{
+    let t = st.works - 1;
+    let v = st.values;
+    let l = st.locals;
+    let below = State {
+        works: t,
+        values: v,
+        locals: l,
+    };
+    let item = stacks::pop_work(work, t);
+    match item {
+        Work::Eval { row, left } => eval(
+            s,
+            surface,
+            declarations,
+            core,
+            work,
+            below,
+            row,
+            left,
+            rows,
+            d,
+        ),
+        Work::PushLocal { start, length } => {
+            stacks::push_local(work, l, start, length);
+            Step::Go(State {
+                works: t,
+                values: v,
+                locals: l + 1,
+            })
+        }
+        Work::PopLocal => Step::Go(State {
+            works: t,
+            values: v,
+            locals: l - 1,
+        }),
+        Work::Build { kind, row } => Step::Go(build_term(core, work, below, kind, row)),
+    }
+}
+
+// The core rows of the term at row `root`, in which the first d declarations are seen.
+fn elaborate_term(
+    s: &[u8],
+    surface: &[u32],
+    declarations: &[u32],
+    core: &mut [u32],
+    work: &mut [u32],
+    root: u32,
+    rows: usize,
+    d: usize,
+) -> TermDone
+    requires { ⌜ Inside (now surface) (now work) rows d ⌝ }
+    ensures { λ r. ⌜ Answered (row-term (now (s .entry)) (now (surface .entry)) (now (declarations .entry)) rows d 512 root [] (now (core .entry))) r (now (core .exit)) ⌝ }
+{
+    stacks::push_work(
+        work,
+        0,
+        Work::Eval {
+            row: root,
+            left: 512,
+        },
+    );
+    let mut st = State {
+        works: 1,
+        values: 0,
+        locals: 0,
+    };
+    loop {
+        let t = st.works;
+        if t == 0 {
+            return TermDone::Done;
+        }
+        let r = work_step(s, surface, declarations, core, work, st, rows, d);
+        match r {
+            Step::Go(next) => {
+                st = next;
+            }
+            Step::Unknown { start, length } => {
+                return TermDone::Unknown { start, length };
+            }
+        }
+    }
+}
+
+// The type of a declaration, and its body if the kind has one.
+fn elaborate_parts(
+    s: &[u8],
+    surface: &[u32],
+    declarations: &[u32],
+    core: &mut [u32],
+    work: &mut [u32],
+    kind: u32,
+    ty: u32,
+    body: u32,
+    rows: usize,
+    d: usize,
+) -> TermDone
+    requires { ⌜ Inside (now surface) (now work) rows d ⌝ }
+    ensures { λ r. ⌜ Answered (parts-outcome (now (s .entry)) (now (surface .entry)) (now (declarations .entry)) rows d kind ty body (now (core .entry))) r (now (core .exit)) ⌝ }
+{
+    let t = elaborate_term(s, surface, declarations, core, work, ty, rows, d);
+    match t {
+        TermDone::Unknown { start, length } => TermDone::Unknown { start, length },
+        TermDone::Done => {
+            if kind == 1 {
+                return TermDone::Done;
+            }
+            elaborate_term(s, surface, declarations, core, work, body, rows, d)
+        }
+    }
+}
+
+// The declaration at place d: its name is new among those before it, and then its type and its body are resolved.
+fn declaration_step(
+    s: &[u8],
+    surface: &[u32],
+    declarations: &[u32],
+    core: &mut [u32],
+    work: &mut [u32],
+    rows: usize,
+    d: usize,
+) -> Elaborated
+    requires { ⌜ Inside (now surface) (now work) rows d ⌝ }
+    requires { ⌜ d * 5 + 5 ≤ length (now declarations) ⌝ }
+    ensures { λ r. ⌜ Declared (declaration-outcome (now (s .entry)) (now (surface .entry)) (now (declarations .entry)) rows d (now (core .entry))) r (now (core .exit)) ⌝ }
+{
+    let at = d * 5;
+    let kind = declarations[at];
+    let start = declarations[at + 1];
+    let length = declarations[at + 2];
+    let ty = declarations[at + 3];
+    let body = declarations[at + 4];
+    let f = scope::find_global(s, declarations, d, start, length);
+    match f {
+        Found::At(_) => Elaborated::Refused {
+            class: 4,
+            start,
+            length,
+        },
+        Found::Nothing => {
+            let t = elaborate_parts(
+                s,
+                surface,
+                declarations,
+                core,
+                work,
+                kind,
+                ty,
+                body,
+                rows,
+                d,
+            );
+            match t {
+                TermDone::Done => Elaborated::Done,
+                TermDone::Unknown { start, length } => Elaborated::Refused {
+                    class: 5,
+                    start,
+                    length,
+                },
+            }
+        }
+    }
+}
+
+// Whether the tables are long enough for so many rows and declarations.
+fn fitting(surface: &[u32], declarations: &[u32], work: &[u32], rows: usize, count: usize) -> bool
+    ensures { λ r. ⌜ Whether r (Fitting (now (surface .entry)) (now (declarations .entry)) (now (work .entry)) rows count) ⌝ }
+{
+    if work.len() < 16384 {
+        return false;
+    }
+    if surface.len() / 8 < rows {
+        return false;
+    }
+    if declarations.len() / 5 < count {
+        return false;
+    }
+    count <= 4294967296
+}
+
+// The core rows of a module's declarations, from their surface rows and records. Tables too short for what they should hold are refused.
+pub fn elaborate_surface(
+    s: &[u8],
+    surface: &[u32],
+    declarations: &[u32],
+    core: &mut [u32],
+    work: &mut [u32],
+    rows: usize,
+    count: usize,
+) -> Elaborated
+    ensures { λ r. ⌜ ((ds : List Declaration) → Loadable (now (surface .entry)) (now (declarations .entry)) (now (core .entry)) (now (work .entry)) rows count ds → Elaborates (now (s .entry)) ds rows (now (core .entry)) r (now (core .exit))) ⌝ }
+{
+    if !fitting(surface, declarations, work, rows, count) {
+        return Elaborated::Refused {
+            class: 1,
+            start: 0,
+            length: 0,
+        };
+    }
+    let mut d: usize = 0;
+    while d < count {
+        let r = declaration_step(s, surface, declarations, core, work, rows, d);
+        match r {
+            Elaborated::Done => {
+                d += 1;
+            }
+            Elaborated::Refused {
+                class,
+                start,
+                length,
+            } => {
+                return Elaborated::Refused {
+                    class,
+                    start,
+                    length,
+                };
+            }
+        }
+    }
+    Elaborated::Done
+}

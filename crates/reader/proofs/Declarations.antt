@@ -1,0 +1,118 @@
+-- A declaration by its parts: what the reading order gives, and the words that are stored. Assumes nothing.
+use mathlib.Core.Path.{_≡_, refl, sym, _∙_, ap, ap₂, subst}
+use mathlib.Core.List.{List, [], _∷_, _++_}
+use mathlib.Core.Option.{Option, none, some}
+use Prim.Native.Nat.{ℕ, suc, _+_, _-_, _*_, _/_, _≤_, _<_}
+use native.Mathlib.Omega.{arith}
+use lib.ListN.{length}
+use Rattle.token.specs.declared.Token.{Token}
+use Rattle.token.specs.declared.Refusal.{Refusal}
+use Rattle.token.specs.declared.Lexed.{Lexed}
+use Rattle.token.specs.declared.Lexed.the-variants.{Got, Refused}
+use Rattle.terms.specs.Forms.{edition-0-1}
+use Rattle.terms.specs.Label.{Label, Declaration, trees}
+use Rattle.terms.specs.Tree.{nil, Tree, tree, next, roots}
+use Rattle.terms.specs.Rows.{pad}
+use Rattle.surface.specs.Reader.{Position, Result, done, refused, at-token}
+use Rattle.surface.specs.Reading.{closing, atom, name, declared, declaration, declaration-kind}
+use Rattle.surface.specs.Text.{text}
+use Rattle.tables.specs.Tables.{with-words}
+use Rattle.rows.specs.Places.{stored-at}
+use Rattle.rows.proofs.Storing.{stored-at-place}
+use Rattle.expects.specs.Expects.{position-at, Reads}
+use Rattle.reader.specs.declared.DeclarationRead.{DeclarationRead}
+use Rattle.reader.specs.ModuleWords.{whole-term, one-body, named-declaration, one-declaration, forest-words, body-trees, body-row, record-words}
+use Rattle.reader.specs.Reads.{Finishes, Declares}
+use Rattle.reader.proofs.Ahead.{Onward, term-onward}
+use Rattle.reader.proofs.Words.{length-forest, forest-split, with-more-words}
+use Rattle.reader.proofs.Parts.{TypeRead, BodyRead}
+
+-- The end of a declaration, where x is read for its closing parenthesis.
+module _ (s : List ℕ) (at n k : ℕ) (list words : List ℕ) (x : Lexed) (h : Reads s (closing s) at x) where
+  pub end-refused : (r : Refusal) → x ≡ Refused r → Finishes (closing s (position-at at n)) k list words (DeclarationRead.Refused r) list
+  end-refused r e = rw (h n, e) (refl, refl)
+
+  pub end-got : (c : Token) → x ≡ Got c → (list₁ : List ℕ) → list₁ ≡ stored-at 5 list k words
+      → Finishes (closing s (position-at at n)) k list words (DeclarationRead.Done n (c .end)) list₁
+  end-got c e list₁ i = rw (h n, e) (refl, i)
+
+-- A declaration of kind 1 + j behind its word, by its parts.
+module _ (s : List ℕ) (limit : ℕ) (t : Token) (j at n : ℕ) where
+  abbrev pub answer : Result Declaration
+  answer = named-declaration s limit t (suc j) (position-at at n)
+
+  module _ (x : Lexed) (h : Reads s (name edition-0-1 s) at x) where
+    pub name-refused : (r : Refusal) → x ≡ Refused r → answer ≡ refused r
+    unfolding declared
+    name-refused r e = rw (h n, e)
+
+    module _ (m : Token) (e : x ≡ Got m) where
+      pub type-refused : (r : Refusal) → whole-term s limit (position-at (m .end) n) ≡ refused r → answer ≡ refused r
+      unfolding declared
+      type-refused r q = rw (h n, e, q)
+
+      module _ (a : Tree Label) (at₁ n₁ : ℕ) (q₁ : whole-term s limit (position-at (m .end) n) ≡ done a (position-at at₁ n₁)) where
+        pub body-refused : (r : Refusal) → one-body s limit j (position-at at₁ n₁) ≡ refused r → answer ≡ refused r
+        unfolding declared
+        body-refused r q = rw (h n, e, q₁, q)
+
+        module _ (b : Option (Tree Label)) (at₂ n₂ : ℕ) (q₂ : one-body s limit j (position-at at₁ n₁) ≡ done b (position-at at₂ n₂)) where
+          pub close-refused : (r : Refusal) → closing s (position-at at₂ n₂) ≡ refused r → answer ≡ refused r
+          unfolding declared
+          close-refused r q = rw (h n, e, q₁, q₂, q)
+
+          pub declared-done : (c : Token) (p : Position) → closing s (position-at at₂ n₂) ≡ done c p
+              → answer ≡ done (record { kind = suc j; start = m .start; length = m .end - m .start; type = a; body = b }) p
+          unfolding declared
+          declared-done c p q = rw (h n, e, q₁, q₂, q)
+
+pub stops : (y : Result Declaration) (x : Refusal) (n k : ℕ) (table list table₁ list₁ : List ℕ) → y ≡ refused x
+    → Declares y n k table list (DeclarationRead.Refused x) table₁ list₁
+stops y x n k table list table₁ list₁ e = rw e refl
+
+-- The words of a record.
+body-word : (n : ℕ) (b : Option (Tree Label)) → body-row n b ∷ [] ≡ pad 1 (roots n (body-trees b))
+body-word n none = refl
+body-word n (some b) = refl
+
+-- A declaration whose parts were read and whose end was asked for.
+module _ (s table list : List ℕ) (at n k : ℕ) (t : Token) (j : ℕ) (x : Lexed) (h : Reads s (name edition-0-1 s) at x) (m : Token) (e : x ≡ Got m)
+    (row n₁ at₁ : ℕ) (table₁ : List ℕ) (a : TypeRead (whole-term s (length table / 8) (position-at (m .end) n)) n table row n₁ at₁ table₁)
+    (body n₂ at₂ : ℕ) (table₂ : List ℕ) (b : BodyRead (one-body s (length table / 8) j (position-at at₁ n₁)) n₁ table₁ body n₂ at₂ table₂)
+    (stored : n ≤ length table / 8) (room : k < length list / 5) where
+  abbrev limit : ℕ
+  limit = length table / 8
+
+  abbrev words : List ℕ
+  words = suc j ∷ m .start ∷ (m .end - m .start) ∷ row ∷ body ∷ []
+
+  abbrev made : Declaration
+  made = record { kind = suc j; start = m .start; length = m .end - m .start; type = a .type; body = b .body }
+
+  onward : Onward s limit (position-at (m .end) n) (tree (a .type) nil) (position-at at₁ n₁)
+  onward = term-onward s limit _ _ (a .type) (a .read)
+
+  first-row : n₁ ≡ suc (next n (a .type .args))
+  first-row = onward .rows
+
+  rows-are : table₂ ≡ with-words table (n * 8) (forest-words n (trees made))
+  rows-are =
+      let u = forest-words n (tree (a .type) nil) in
+      let f = body-trees (b .body) in
+      b .words
+      ∙ ap (λ (l : List ℕ). with-words l (n₁ * 8) (forest-words n₁ f)) (a .words)
+      ∙ with-more-words table (n * 8) (n₁ * 8) u (forest-words n₁ f) (omega (arith, length-forest n (tree (a .type) nil), first-row))
+      (omega (arith, onward .room stored))
+      ∙ ap (λ (i : ℕ). with-words table (n * 8) (u ++ forest-words i f)) first-row
+      ∙ ap (with-words table (n * 8)) (sym (forest-split n (a .type) f))
+
+  record-is : words ≡ record-words n made
+  record-is = ap₂ (λ (i : ℕ) (l : List ℕ). suc j ∷ m .start ∷ (m .end - m .start) ∷ i ∷ l) (a .row-is)
+      (ap (λ (i : ℕ). i ∷ []) (b .row-is) ∙ body-word n₁ (b .body) ∙ ap (λ (i : ℕ). pad 1 (roots i (body-trees (b .body)))) first-row)
+
+  pub ended : (y : Result Token) → closing s (position-at at₂ n₂) ≡ y → (r : DeclarationRead) (list₁ : List ℕ) → Finishes y k list words r list₁
+      → Declares (answer s limit t j at n) n k table list r table₂ list₁
+  ended (refused z) q r list₁ f = rw (close-refused s limit t j at n x h m e (a .type) at₁ n₁ (a .read) (b .body) at₂ n₂ (b .read) z q) (f .0)
+  ended (done c p) q r list₁ f =
+      rw (declared-done s limit t j at n x h m e (a .type) at₁ n₁ (a .read) (b .body) at₂ n₂ (b .read) c p q)
+      (f .0, rows-are, f .1 ∙ stored-at-place 5 list k words refl (omega arith) room ∙ ap (with-words list (k * 5)) record-is)

@@ -1,0 +1,9 @@
+mod Ahead
+mod Words
+mod Parts
+mod Declarations
+mod Named
+mod Tagged
+mod Steps
+mod Loop
+mod Modules

@@ -1,0 +1,159 @@
+-- What stands next in a module: the end, a declaration, or what is refused. Assumes nothing.
+use mathlib.Core.Path.{_≡_, refl, sym, _∙_, ap, ap₂, subst}
+use mathlib.Core.List.{List, [], _∷_, _++_, map}
+use Prim.Native.Nat.{ℕ, zero, suc, _+_, _-_, _*_, _/_, _≤_, _<_}
+use native.Mathlib.Omega.{arith}
+use lib.ListN.{length}
+use Rattle.token.specs.Token.{next-token}
+use Rattle.token.specs.declared.TokenKind.{TokenKind}
+use Rattle.token.specs.declared.Token.{Token}
+use Rattle.token.specs.declared.Refusal.{Refusal}
+use Rattle.token.specs.declared.Lexed.{Lexed}
+use Rattle.token.specs.declared.Lexed.the-variants.{Got, Refused}
+use Rattle.terms.specs.Forms.{edition-0-1}
+use Rattle.terms.specs.Label.{Declaration, trees}
+use Rattle.terms.specs.Tree.{next, roots, cells}
+use Rattle.terms.specs.Rows.{surface-row, surface-rows, joined}
+use Rattle.terms.proofs.Tables.{length-pad}
+use Rattle.surface.specs.Reader.{Position, Result, done, refused, Reader, after, _>>=_, pure, refuse, nowhere, at-token}
+use Rattle.surface.specs.Reading.{lexed, token, onwards, declarations}
+use Rattle.tables.specs.Tables.{with-words}
+use Rattle.expects.specs.Expects.{position-at}
+use Rattle.expects.proofs.Ahead.{TokenAhead, token-got}
+use Rattle.reader.specs.declared.DeclarationRead.{DeclarationRead}
+use Rattle.reader.specs.declared.ModuleRead.{ModuleRead}
+use Rattle.reader.specs.ModuleWords.{whole-term, one-declaration, all-declarations, row-words, record-words, records}
+use Rattle.reader.specs.Reads.{Inside, Declares, ReadsFrom, left, Went}
+use Rattle.reader.proofs.Ahead.{Onward, declaration-onward}
+use Rattle.reader.proofs.Words.{joined-append, length-forest, with-no-words, with-more-words}
+
+module _ (s : List ℕ) (limit : ℕ) where
+  -- What stands behind an opening parenthesis, where there is room for so many declarations.
+  abbrev more : ℕ → Reader (List Declaration)
+  more zero = refuse (nowhere 9)
+  more (suc m) = one-declaration s limit >>= (λ d. all-declarations s limit m >>= (λ l. pure (d ∷ l)))
+
+  first-token : (room : ℕ) (p : Position) → all-declarations s limit room p ≡ (token s >>= (λ t. onwards edition-0-1 s (whole-term s limit) (more room) t (t .kind))) p
+  unfolding declarations
+  first-token zero p = refl
+  first-token (suc m) p = refl
+
+  module _ (at n room : ℕ) (x : Lexed) (h : x ≡ next-token s at) where
+    abbrev answer : Result (List Declaration)
+    answer = all-declarations s limit room (position-at at n)
+
+    pub next-refused : (r : Refusal) → x ≡ Refused r → answer ≡ refused r
+    unfolding token
+    next-refused r e = first-token room _ ∙ rw (sym h ∙ e)
+
+    module _ (t : Token) (e : x ≡ Got t) where
+      on-kind : (k : TokenKind) → t .kind ≡ k → answer ≡ onwards edition-0-1 s (whole-term s limit) (more room) t k (position-at (t .end) n)
+      unfolding token
+      on-kind k q = first-token room _ ∙ rw (sym h ∙ e, q)
+
+      pub next-end : t .kind ≡ TokenKind.Eof → answer ≡ done [] (position-at (t .end) n)
+      unfolding onwards
+      next-end q = on-kind TokenKind.Eof q
+
+      pub next-full : t .kind ≡ TokenKind.LParen → room ≡ 0 → (r : Refusal) → r ≡ nowhere 9 → answer ≡ refused r
+      unfolding onwards
+      next-full q z r i = on-kind TokenKind.LParen q ∙ ap (λ (j : ℕ). more j (position-at (t .end) n)) z ∙ ap refused (sym i)
+
+      pub next-other : (t .kind ≡ TokenKind.LParen → ⊥) → (t .kind ≡ TokenKind.Eof → ⊥) → (r : Refusal) → r ≡ at-token 1 t → answer ≡ refused r
+      unfolding onwards
+      next-other a b r i = by (t .kind) refl ∙ ap refused (sym i)
+        where
+          by : (k : TokenKind) → t .kind ≡ k → answer ≡ refused (at-token 1 t)
+          by TokenKind.LParen q = absurd (a q)
+          by TokenKind.RParen q = on-kind TokenKind.RParen q
+          by TokenKind.Atom q = on-kind TokenKind.Atom q
+          by TokenKind.Eof q = absurd (b q)
+
+      pub next-opens : t .kind ≡ TokenKind.LParen → (m : ℕ) → room ≡ suc m
+          → answer ≡ after (one-declaration s limit (position-at (t .end) n)) (λ d. all-declarations s limit m >>= (λ l. pure (d ∷ l)))
+      unfolding onwards
+      next-opens q m z = on-kind TokenKind.LParen q ∙ ap (λ (j : ℕ). more j (position-at (t .end) n)) z
+
+-- The end: nothing more is stored.
+pub ends-here : (s table list : List ℕ) (at n k : ℕ) (x : Lexed) → x ≡ next-token s at → (t : Token) → x ≡ Got t → t .kind ≡ TokenKind.Eof
+    → ReadsFrom n k (left s table list at n k) table list (ModuleRead.Done n k) table list
+ends-here s table list at n k x h t e q =
+    rw (next-end s (length table / 8) at n (length list / 5 - k) x h t e q)
+    (ap (ModuleRead.Done n) (let z : k ≡ k + 0 = omega arith in z), sym (with-no-words table (n * 8)), sym (with-no-words list (k * 5)))
+
+-- A declaration d behind n rows and k declarations, and then others.
+module _ (n k n₁ : ℕ) (table list table₁ list₁ : List ℕ) (d : Declaration) (rows : n₁ ≡ next n (trees d)) (few : n₁ * 8 ≤ length table) (room : k < length list / 5)
+    (u : table₁ ≡ with-words table (n * 8) (row-words n d)) (v : list₁ ≡ with-words list (k * 5) (record-words n d)) where
+  more-rows : (ds : List Declaration) → with-words table₁ (n₁ * 8) (joined (surface-rows n₁ ds)) ≡ with-words table (n * 8) (joined (surface-rows n (d ∷ ds)))
+  more-rows ds =
+      ap (λ (l : List ℕ). with-words l (n₁ * 8) (joined (surface-rows n₁ ds))) u
+      ∙ with-more-words table (n * 8) (n₁ * 8) (row-words n d) (joined (surface-rows n₁ ds)) (omega (arith, length-forest n (trees d), rows)) few
+      ∙ ap (λ (i : ℕ). with-words table (n * 8) (row-words n d ++ joined (surface-rows i ds))) rows
+      ∙ ap (with-words table (n * 8)) (sym (joined-append (map surface-row (cells n (trees d))) (surface-rows (next n (trees d)) ds)))
+
+  more-records : (ds : List Declaration) → with-words list₁ ((k + 1) * 5) (joined (records n₁ ds)) ≡ with-words list (k * 5) (joined (records n (d ∷ ds)))
+  more-records ds =
+      ap (λ (l : List ℕ). with-words l ((k + 1) * 5) (joined (records n₁ ds))) v
+      ∙ with-more-words list (k * 5) ((k + 1) * 5) (record-words n d) (joined (records n₁ ds)) (omega (arith, length-pad 2 (roots n (trees d)))) (omega arith)
+      ∙ ap (λ (i : ℕ). with-words list (k * 5) (record-words n d ++ joined (records i ds))) rows
+
+  pub further : (y : Result (List Declaration)) (r : ModuleRead) (table₂ list₂ : List ℕ) → ReadsFrom n₁ (k + 1) y table₁ list₁ r table₂ list₂
+      → ReadsFrom n k (after y (λ l. pure (d ∷ l))) table list r table₂ list₂
+  further (refused x) r table₂ list₂ h = h
+  further (done ds q) r table₂ list₂ h =
+      (h .0 ∙ ap (ModuleRead.Done (q .rows)) (let z : k + 1 + length ds ≡ k + suc (length ds) = omega arith in z), h .1 ∙ more-rows ds, h .2 ∙ more-records ds)
+
+-- A declaration that was read behind the parenthesis t.
+module _ (s table list : List ℕ) (at n k : ℕ) (work work₁ : List ℕ) (inside : Inside s table work at n) (room : k < length list / 5) (x : Lexed) (h : x ≡ next-token s at)
+    (t : Token) (e : x ≡ Got t) (opens : t .kind ≡ TokenKind.LParen) where
+  opened : TokenAhead s (position-at at n) t (position-at (t .end) n)
+  unfolding token
+  opened = token-got s _ t _ (ap (lexed s n) (sym h ∙ e)) (λ i. let z : _≡_ {A = ℕ} 0 1 = cc in omega arith)
+
+  pub behind-parenthesis : Inside s table work (t .end) n
+  behind-parenthesis = record { source = inside .source; area = inside .area; within = opened .high; few = omega (arith, opened, inside .few); stored = inside .stored }
+
+  abbrev one : Result Declaration
+  one = one-declaration s (length table / 8) (position-at (t .end) n)
+
+  abbrev others : ℕ
+  others = length list / 5 - (k + 1)
+
+  opens-to : left s table list at n k ≡ after one (λ d. all-declarations s (length table / 8) others >>= (λ l. pure (d ∷ l)))
+  opens-to = next-opens s (length table / 8) at n (length list / 5 - k) x h t e opens others (omega arith)
+
+  module _ (y : DeclarationRead) (table₁ list₁ : List ℕ) (u : length table₁ ≡ length table) (v : length list₁ ≡ length list) (w : length work₁ ≡ length work)
+      (g : Declares one n k table list y table₁ list₁) where
+    pub declaration-stops : (r : Refusal) → y ≡ DeclarationRead.Refused r → left s table list at n k ≡ refused r
+    declaration-stops r i = by one refl g
+      where
+        by : (z : Result Declaration) → one ≡ z → Declares z n k table list y table₁ list₁ → left s table list at n k ≡ refused r
+        by (done d q) j f = absurd (let z : _≡_ {A = ℕ} 0 1 = cc (f .0) in omega arith)
+        by (refused c) j f = opens-to ∙ rw j (ap refused (cc))
+
+    pub went : (n₁ at₁ : ℕ) → y ≡ DeclarationRead.Done n₁ at₁ → Went s table list at n k at₁ n₁ table₁ list₁ work₁
+    went n₁ at₁ i = by one refl g
+      where
+        by : (z : Result Declaration) → one ≡ z → Declares z n k table list y table₁ list₁ → Went s table list at n k at₁ n₁ table₁ list₁ work₁
+        by (refused c) j f = absurd (let z : _≡_ {A = ℕ} 0 1 = cc in omega arith)
+        by (done d q) j f =
+            let is : one ≡ done d (position-at at₁ n₁) = j ∙ ap₂ (λ (a b : ℕ). done d (position-at a b)) (cc (f .0)) (cc (f .0)) in
+            let o = declaration-onward s (length table / 8) _ _ d is in
+            let b = behind-parenthesis in
+            let m : n₁ ≤ length table / 8 = o .room (inside .stored) in
+            let same : left s table₁ list₁ at₁ n₁ (k + 1) ≡ all-declarations s (length table / 8) others (position-at at₁ n₁) =
+            ap₂ (λ (a c : ℕ). all-declarations s (a / 8) (c / 5 - (k + 1)) (position-at at₁ n₁)) u v in
+            record {
+              inside = record {
+                source = inside .source;
+                area = omega (arith, inside .area);
+                within = o .high (b .within);
+                few = omega (arith, o .slow, b .few);
+                stored = subst (λ (l : ℕ). n₁ ≤ l / 8) (sym u) m;
+              };
+              same = λ r table₂ list₂ a.
+                  subst (λ (l : Result (List Declaration)). ReadsFrom n k l table list r table₂ list₂)
+                  (sym (opens-to ∙ ap (λ (l : Result Declaration). after l (λ d. all-declarations s (length table / 8) others >>= (λ l. pure (d ∷ l)))) is))
+                  (further n k n₁ table list table₁ list₁ d (o .rows) (omega arith) room (f .1) (f .2) (all-declarations s (length table / 8) others (position-at at₁ n₁)) r table₂ list₂
+                  (subst (λ (l : Result (List Declaration)). ReadsFrom n₁ (k + 1) l table₁ list₁ r table₂ list₂) same a));
+            }

@@ -1,0 +1,49 @@
+-- A declaration behind its parenthesis, by its word. Assumes nothing.
+use mathlib.Core.Path.{_≡_, sym, _∙_, ap, subst}
+use mathlib.Core.List.{List}
+use Prim.Native.Nat.{ℕ, zero, suc, _-_, _/_, _≤_, _<_}
+use native.Mathlib.Omega.{arith}
+use lib.ListN.{length}
+use Rattle.token.specs.declared.Token.{Token}
+use Rattle.token.specs.declared.Refusal.{Refusal}
+use Rattle.token.specs.declared.Lexed.{Lexed}
+use Rattle.token.specs.declared.Lexed.the-variants.{Got, Refused}
+use Rattle.surface.specs.Reader.{Result, refused, at-token}
+use Rattle.surface.specs.Reading.{atom, declared, declaration, declaration-kind}
+use Rattle.surface.specs.Text.{text}
+use Rattle.terms.specs.Label.{Declaration}
+use Rattle.expects.specs.Expects.{position-at, Reads}
+use Rattle.expects.proofs.Ahead.{TokenAhead, atom-ahead, read-ahead}
+use Rattle.reader.specs.declared.DeclarationRead.{DeclarationRead}
+use Rattle.reader.specs.ModuleWords.{named-declaration, one-declaration}
+use Rattle.reader.specs.Reads.{Inside, Declares}
+
+module _ (s : List ℕ) (limit at n : ℕ) (x : Lexed) (h : Reads s (atom s) at x) where
+  pub word-refused : (r : Refusal) → x ≡ Refused r → one-declaration s limit (position-at at n) ≡ refused r
+  unfolding declaration
+  word-refused r e = rw (h n, e)
+
+  module _ (t : Token) (e : x ≡ Got t) (kind : ℕ) (is : kind ≡ declaration-kind (text s t)) where
+    by-kind : one-declaration s limit (position-at at n) ≡ named-declaration s limit t kind (position-at (t .end) n)
+    unfolding declaration
+    by-kind = rw (h n, e, is)
+
+    pub other-word : kind ≡ 0 → (r : Refusal) → r ≡ at-token 1 t → one-declaration s limit (position-at at n) ≡ refused r
+    unfolding declared
+    other-word z r i = by-kind ∙ ap (λ (j : ℕ). named-declaration s limit t j (position-at (t .end) n)) z ∙ ap refused (sym i)
+
+    word-ahead : TokenAhead s (position-at at n) t (position-at (t .end) n)
+    word-ahead = read-ahead s (atom s) (atom-ahead s) at x h t e n
+
+    pub behind-word : (table work : List ℕ) → Inside s table work at n → Inside s table work (t .end) n
+    behind-word table work i =
+        record { source = i .source; area = i .area; within = word-ahead .high; few = omega (arith, word-ahead, i .few); stored = i .stored }
+
+    -- What stands behind a declaration's word.
+    pub word-got : (kind ≡ 0 → ⊥) → (k : ℕ) (table list : List ℕ) (r : DeclarationRead) (table₁ list₁ : List ℕ)
+        → ((u : Token) (j : ℕ) → kind ≡ suc j → Declares (named-declaration s limit u (suc j) (position-at (t .end) n)) n k table list r table₁ list₁)
+        → Declares (one-declaration s limit (position-at at n)) n k table list r table₁ list₁
+    word-got z k table list r table₁ list₁ d =
+        let j : kind ≡ suc (kind - 1) = omega (arith, z) in
+        subst (λ (y : Result Declaration). Declares y n k table list r table₁ list₁)
+        (ap (λ (i : ℕ). named-declaration s limit t i (position-at (t .end) n)) (sym j) ∙ sym by-kind) (d t (kind - 1) j)

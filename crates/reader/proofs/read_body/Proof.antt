@@ -1,0 +1,42 @@
+use mathlib.Core.Path.{refl}
+use native.Mathlib.Omega.{arith}
+use Rattle.reader.proofs.Parts.{term-inside, no-body, some-body}
+use borrow.Author.Needs.{needs}
+use Rattle.reader.proofs.read_body.Statement.{statement}
+use Rattle.reader.proofs.read_body.Tie as tie
+use Rattle.reader.proofs.read_body.Reads as reads
+use Rattle.reader.proofs.read_body.Lts as lts
+use Rattle.parser.proofs.read_term.Reads as read-term-reads
+
+-- src/lib.rt:71:9
+returns : tie.Need-returns
+returns c =
+    let a = c .before .before .before .before .args in
+    λ i j e.
+    no-body (a .s .now) (a .table .now) (a .at) (a .rows) _ _ j (omega arith) refl refl
+
+-- src/lib.rt:77:5
+read-term-requires : tie.Need-read-term-requires
+read-term-requires c κs = search needs
+
+-- src/lib.rt:67:1
+same-length : tie.Need-same-length
+same-length c = search needs
+
+-- src/lib.rt:67:1
+same-length-2 : tie.Need-same-length-2
+same-length-2 c = search needs
+
+-- src/lib.rt:67:1
+returns-2 : tie.Need-returns-2
+returns-2 c =
+    let k = c .before .before .before .before in
+    let f = k .before .before .before in
+    let a = f .before .before .before .before .args in
+    λ i j e.
+    some-body (a .s .now) (a .table .now) (a .at) (a .rows) (k .read-term .result) (k .read-term .last .1 .0) j (λ z. f .if1 .left (omega arith))
+    (k .read-term .ensures (term-inside (a .s .now) (a .table .now) (a .work .now) (a .at) (a .rows) i))
+
+pub read-body-spec : {M : Type 1} → statement M
+read-body-spec =
+    tie.close (tie.spec returns read-term-requires same-length same-length-2 returns-2)

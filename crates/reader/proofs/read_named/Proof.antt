@@ -1,0 +1,173 @@
+-- `reader::read_named` meets its contract. Assumes nothing.
+use Rattle.reader.proofs.Declarations.{stops, name-refused}
+use Rattle.reader.proofs.Named.{name-order, type-stops, body-stops, ends}
+use borrow.Author.Needs.{needs}
+use Rattle.reader.proofs.read_named.Statement.{statement}
+use Rattle.reader.proofs.read_named.Tie as tie
+use Rattle.reader.proofs.read_named.Reads as reads
+use Rattle.reader.proofs.read_named.Lts as lts
+use Rattle.expects.proofs.parse_identifier.Reads as parse-identifier-reads
+use Rattle.parser.proofs.read_term.Reads as read-term-reads
+use Rattle.reader.proofs.declaration_record.Reads as declaration-record-reads
+use Rattle.reader.proofs.finish_declaration.Reads as finish-declaration-reads
+use Rattle.reader.proofs.read_body.Reads as read-body-reads
+
+-- src/lib.rt:111:9
+parse-identifier-requires : tie.Need-parse-identifier-requires
+parse-identifier-requires c κs = search needs
+
+-- src/lib.rt:113:24
+enum-known-l : tie.Need-enum-known-l
+enum-known-l c = search needs
+
+-- src/lib.rt:114:20
+enum-known-l-2 : tie.Need-enum-known-l-2
+enum-known-l-2 c = search needs
+
+-- src/lib.rt:115:17
+read-term-requires : tie.Need-read-term-requires
+read-term-requires c κs = search needs
+
+-- src/lib.rt:117:35
+enum-known-ty : tie.Need-enum-known-ty
+enum-known-ty c = search needs
+
+-- src/lib.rt:119:21
+enum-known-ty-2 : tie.Need-enum-known-ty-2
+enum-known-ty-2 c = search needs
+
+-- src/lib.rt:123:25
+read-body-requires : tie.Need-read-body-requires
+read-body-requires c κs = search needs
+
+-- src/lib.rt:125:43
+enum-known-body : tie.Need-enum-known-body
+enum-known-body c = search needs
+
+-- src/lib.rt:127:34
+enum-known-body-2 : tie.Need-enum-known-body-2
+enum-known-body-2 c = search needs
+
+-- src/lib.rt:131:33
+declaration-record-requires : tie.Need-declaration-record-requires
+declaration-record-requires c κs =
+    let x = c .before .before .before .before .before .before .before .before .before .before .before .before .before .before .before .before .before .before .before .before .before in
+    let i = x .before .before in
+    name-order _ _ (i .parse-identifier .result) (i .parse-identifier .ensures) _ (x .l2 .given .1)
+
+-- src/lib.rt:132:29
+finish-declaration-requires : tie.Need-finish-declaration-requires
+finish-declaration-requires c κs = search needs
+
+-- src/lib.rt:108:1
+returns : tie.Need-returns
+returns c =
+    let x = c .before in
+    let i = x .before .before in
+    let a = i .before .before .before .before .before .args in
+    λ w room t j is.
+    stops _ _ _ _ _ _ _ _ (name-refused (a .s .now) _ t j (a .at) (a .rows) (i .parse-identifier .result) (i .parse-identifier .ensures) _ (x .l .given .1))
+
+-- src/lib.rt:108:1
+same-length : tie.Need-same-length
+same-length c = search needs
+
+-- src/lib.rt:108:1
+same-length-2 : tie.Need-same-length-2
+same-length-2 c = search needs
+
+-- src/lib.rt:108:1
+returns-2 : tie.Need-returns-2
+returns-2 c =
+    let y = c .before in
+    let g = y .before .before .before .before .before .before in
+    let x = g .before .before .before .before in
+    let i = x .before .before in
+    let a = i .before .before .before .before .before .args in
+    λ w room t j is.
+    type-stops (a .s .now) (a .table .now) (a .list .now) (a .work .now) (a .at) (a .rows) (a .k) t j (a .kind) w room is
+    (i .parse-identifier .result) (i .parse-identifier .ensures) (x .l2 .given .0 .0) (x .l2 .given .1)
+    (g .read-term .result) (g .read-term .last .1 .0) (g .read-term .last .1 .1 .0) (g .read-term .kept .1 .0) (g .read-term .kept .1 .1 .0) (g .read-term .ensures)
+    _ (y .ty .given .1) _
+
+-- src/lib.rt:108:1
+same-length-3 : tie.Need-same-length-3
+same-length-3 c = search needs
+
+-- src/lib.rt:108:1
+same-length-4 : tie.Need-same-length-4
+same-length-4 c = search needs
+
+-- src/lib.rt:108:1
+returns-3 : tie.Need-returns-3
+returns-3 c =
+    let z = c .before in
+    let f = z .before .before .before .before .before .before in
+    let y = f .before .before .before .before in
+    let g = y .before .before .before .before .before .before in
+    let x = g .before .before .before .before in
+    let i = x .before .before in
+    let a = i .before .before .before .before .before .args in
+    λ w room t j is.
+    body-stops (a .s .now) (a .table .now) (a .list .now) (a .work .now) (a .at) (a .rows) (a .k) t j (a .kind) w room is
+    (i .parse-identifier .result) (i .parse-identifier .ensures) (x .l2 .given .0 .0) (x .l2 .given .1)
+    (g .read-term .result) (g .read-term .last .1 .0) (g .read-term .last .1 .1 .0) (g .read-term .kept .1 .0) (g .read-term .kept .1 .1 .0) (g .read-term .ensures)
+    _ _ _ (y .ty2 .given .1) (f .read-body .result) (f .read-body .last .1 .0) (f .read-body .ensures) _ (z .body .given .1) _
+
+-- src/lib.rt:108:1
+same-length-5 : tie.Need-same-length-5
+same-length-5 c = search needs
+
+-- src/lib.rt:108:1
+same-length-6 : tie.Need-same-length-6
+same-length-6 c = search needs
+
+-- src/lib.rt:108:1
+same-length-7 : tie.Need-same-length-7
+same-length-7 c = search needs
+
+-- src/lib.rt:108:1
+returns-4 : tie.Need-returns-4
+returns-4 c =
+    let e = c .before .before in
+    let d = e .before .before in
+    let z = d .before .before in
+    let f = z .before .before .before .before .before .before in
+    let y = f .before .before .before .before in
+    let g = y .before .before .before .before .before .before in
+    let x = g .before .before .before .before in
+    let i = x .before .before in
+    let a = i .before .before .before .before .before .args in
+    λ w room t j is.
+    ends (a .s .now) (a .table .now) (a .list .now) (a .work .now) (a .at) (a .rows) (a .k) t j (a .kind) w room is
+    (i .parse-identifier .result) (i .parse-identifier .ensures) (x .l2 .given .0 .0) (x .l2 .given .1)
+    (g .read-term .result) (g .read-term .last .1 .0) (g .read-term .last .1 .1 .0) (g .read-term .kept .1 .0) (g .read-term .kept .1 .1 .0) (g .read-term .ensures)
+    _ _ _ (y .ty2 .given .1) (f .read-body .result) (f .read-body .last .1 .0) (f .read-body .ensures)
+    _ _ _ (z .body2 .given .1) _ (d .declaration-record .ensures) _ _ (e .finish-declaration .ensures)
+
+pub read-named-spec : {M : Type 1} → statement M
+read-named-spec =
+    tie.close
+    (tie.spec
+    parse-identifier-requires
+    enum-known-l
+    enum-known-l-2
+    read-term-requires
+    enum-known-ty
+    enum-known-ty-2
+    read-body-requires
+    enum-known-body
+    enum-known-body-2
+    declaration-record-requires
+    finish-declaration-requires
+    returns
+    same-length
+    same-length-2
+    returns-2
+    same-length-3
+    same-length-4
+    returns-3
+    same-length-5
+    same-length-6
+    same-length-7
+    returns-4)

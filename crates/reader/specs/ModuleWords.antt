@@ -1,0 +1,57 @@
+-- Declarations read straight into rows and records: the reading order of `surface`, with each declaration as words. Assumes nothing.
+use mathlib.Core.List.{List, [], _∷_, map}
+use mathlib.Core.Option.{Option, none, some}
+use Prim.Native.Nat.{ℕ}
+use Rattle.token.specs.declared.Token.{Token}
+use Rattle.terms.specs.Forms.{edition-0-1}
+use Rattle.terms.specs.Label.{Label, Declaration, trees}
+use Rattle.terms.specs.Tree.{Forest, nil, Tree, tree, maybe, next, roots, cells}
+use Rattle.terms.specs.Rows.{pad, surface-row, joined}
+use Rattle.surface.specs.Reader.{Reader}
+use Rattle.surface.specs.Reading.{term, beginning, closing, body, declared, declaration, declarations}
+
+-- A whole type or body, where there is room for so many rows.
+abbrev pub whole-term : List ℕ → ℕ → Reader (Tree Label)
+whole-term s limit = term (beginning edition-0-1 s) (closing s) limit 512
+
+-- The body of a declaration of kind 1 + j.
+abbrev pub one-body : List ℕ → ℕ → ℕ → Reader (Option (Tree Label))
+one-body s limit j = body edition-0-1 s (whole-term s limit) j
+
+-- A declaration of some kind behind its word t.
+abbrev pub named-declaration : List ℕ → ℕ → Token → ℕ → Reader Declaration
+named-declaration s limit t kind = declared edition-0-1 s (whole-term s limit) t kind
+
+-- A declaration behind its parenthesis.
+abbrev pub one-declaration : List ℕ → ℕ → Reader Declaration
+one-declaration s limit = declaration edition-0-1 s (whole-term s limit)
+
+-- Declarations to the end, where there is room for so many more.
+abbrev pub all-declarations : List ℕ → ℕ → ℕ → Reader (List Declaration)
+all-declarations s limit room = declarations edition-0-1 s (whole-term s limit) room
+
+-- The words of the rows of some trees, the first of which is row n.
+abbrev pub forest-words : ℕ → Forest Label → List ℕ
+forest-words n f = joined (map surface-row (cells n f))
+
+-- The words of a declaration's rows.
+abbrev pub row-words : ℕ → Declaration → List ℕ
+row-words n d = forest-words n (trees d)
+
+-- A body's trees: none or one.
+abbrev pub body-trees : Option (Tree Label) → Forest Label
+body-trees b = maybe b nil (λ t. tree t nil)
+
+-- "body row (0 for a postulate)"
+abbrev pub body-row : ℕ → Option (Tree Label) → ℕ
+body-row n none = 0
+body-row n (some b) = next n (b .args)
+
+-- "A declaration record: kind, name start, name length, type row, body row (0 for a postulate)."
+abbrev pub record-words : ℕ → Declaration → List ℕ
+record-words n d = d .kind ∷ d .start ∷ d .length ∷ pad 2 (roots n (trees d))
+
+-- The records of declarations, the first row of all being row n.
+abbrev pub records : ℕ → List Declaration → List (List ℕ)
+records n [] = []
+records n (d ∷ l) = record-words n d ∷ records (next n (trees d)) l

@@ -1,0 +1,227 @@
+// The reader of modules: the head, then declarations to the end, into lent tables of rows and records.
+// The port of `parse_module` and `parse_declaration_after_lparen` in surface/parser.rs.
+ghost use mathlib.Core.Path.{_≡_};
+ghost use mathlib.Core.List.{[], _∷_};
+ghost use Prim.Native.Nat.{ℕ, suc, _-_, _/_, _≤_, _<_};
+ghost use lib.ListN.{length};
+ghost use Rattle.token.specs.declared.Token.{Token};
+ghost use Rattle.surface.specs.Reader.{start, nowhere, at-offset};
+ghost use Rattle.surface.specs.Reading.{closing, read-module};
+ghost use Rattle.expects.specs.Expects.{position-at};
+ghost use Rattle.reader.specs.ModuleWords.{one-body, named-declaration, one-declaration};
+ghost use Rattle.reader.specs.Reads.{Inside, BodyReads, Finishes, Declares, left, Stepped, HasRoom, ReadsFrom, ReadsModule};
+use expects::HeadRead;
+use parser::TermRead;
+use token::Lexed;
+use token::Place;
+use token::Refusal;
+use token::Token;
+use token::TokenKind;
+
+// A declaration that was read: how many rows are stored, and where reading goes on; or the refusal.
+pub enum DeclarationRead {
+    Done { rows: usize, next: usize },
+    Refused(Refusal),
+}
+
+// What stands next in a module: a declaration, with the same numbers; the end; or the refusal.
+pub enum Step {
+    Declared { rows: usize, next: usize },
+    End,
+    Refused(Refusal),
+}
+
+// A module that was read: how many rows and declarations are stored; or the refusal.
+pub enum ModuleRead {
+    Done { rows: usize, declarations: usize },
+    Refused(Refusal),
+}
+
+fn malformed(at: usize) -> Refusal
+    ensures { λ r. ⌜ r ≡ at-offset 1 at ⌝ }
+{
+    Refusal {
+        class: 1,
+        place: Place::At(at),
+    }
+}
+
+// "9 declaration list full", nowhere
+fn full() -> Refusal
+    ensures { λ r. ⌜ r ≡ nowhere 9 ⌝ }
+{
+    Refusal {
+        class: 9,
+        place: Place::Nowhere,
+    }
+}
+
+// An offset or a length as a word of a record: itself, in a source of at most 65535 bytes.
+fn narrow(n: usize) -> u32
+    ensures { λ r. ⌜ (n < 4294967296 → r ≡ n) ⌝ }
+{
+    (n % 4294967296) as u32
+}
+
+// "kind, name start, name length, type row, body row"
+fn declaration_record(kind: u32, name: Token, type_row: u32, body_row: u32) -> [u32; 5]
+    requires { ⌜ name .start ≤ name .end ⌝ }
+    ensures { λ r. ⌜ (name .end < 4294967296 → r ≡ kind ∷ name .start ∷ (name .end - name .start) ∷ «type_row» ∷ «body_row» ∷ []) ⌝ }
+{
+    let start = narrow(name.start);
+    let length = narrow(name.end - name.start);
+    [kind, start, length, type_row, body_row]
+}
+
+// The body of a declaration: a postulate, of kind 1, has none.
+fn read_body(s: &[u8], table: &mut [u32], work: &mut [u32], kind: u32, at: usize, rows: usize) -> TermRead
+    ensures { λ r. ⌜ (Inside (now (s .entry)) (now (table .entry)) (now (work .entry)) at rows → (j : ℕ) → kind ≡ suc j → BodyReads (one-body (now (s .entry)) (length (now (table .entry)) / 8) j (position-at at rows)) rows (now (table .entry)) r (now (table .exit))) ⌝ }
+{
+    if kind == 1 {
+        return TermRead::Done {
+            row: 0,
+            rows: rows,
+            next: at,
+        };
+    }
+    parser::read_term(s, table, work, at, rows)
+}
+
+// The closing parenthesis of a declaration, and only then its record.
+fn finish_declaration(s: &[u8], list: &mut [u32], at: usize, rows: usize, k: usize, record: [u32; 5]) -> DeclarationRead
+    ensures { λ r. ⌜ Finishes (closing (now (s .entry)) (position-at at rows)) k (now (list .entry)) «record» r (now (list .exit)) ⌝ }
+{
+    let l = expects::expect_rparen(s, at);
+    match l {
+        Lexed::Refused(r) => DeclarationRead::Refused(r),
+        Lexed::Got(close) => {
+            rows::store_record(list, k, record);
+            DeclarationRead::Done {
+                rows: rows,
+                next: close.end,
+            }
+        }
+    }
+}
+
+// A declaration of some kind behind its word: its name, its type, its body if the kind has one, and its end.
+fn read_named(s: &[u8], table: &mut [u32], list: &mut [u32], work: &mut [u32], kind: u32, at: usize, rows: usize, k: usize) -> DeclarationRead
+    ensures { λ r. ⌜ (Inside (now (s .entry)) (now (table .entry)) (now (work .entry)) at rows → k < length (now (list .entry)) / 5 → (t : Token) (j : ℕ) → kind ≡ suc j → Declares (named-declaration (now (s .entry)) (length (now (table .entry)) / 8) t (suc j) (position-at at rows)) rows k (now (table .entry)) (now (list .entry)) r (now (table .exit)) (now (list .exit))) ⌝ }
+{
+    let l = expects::parse_identifier(s, at);
+    match l {
+        Lexed::Refused(r) => DeclarationRead::Refused(r),
+        Lexed::Got(name) => {
+            let ty = parser::read_term(s, table, work, name.end, rows);
+            match ty {
+                TermRead::Refused(r) => DeclarationRead::Refused(r),
+                TermRead::Done {
+                    row,
+                    rows: typed,
+                    next,
+                } => {
+                    let body = read_body(s, table, work, kind, next, typed);
+                    match body {
+                        TermRead::Refused(r) => DeclarationRead::Refused(r),
+                        TermRead::Done {
+                            row: body_row,
+                            rows: all,
+                            next: end,
+                        } => {
+                            let record = declaration_record(kind, name, row, body_row);
+                            finish_declaration(s, list, end, all, k, record)
+                        }
+                    }
+                }
+            }
+        }
+    }
+}
+
+// The declaration behind an opening parenthesis, behind n rows and k declarations: its rows and its record are stored.
+pub fn read_declaration(s: &[u8], table: &mut [u32], list: &mut [u32], work: &mut [u32], at: usize, rows: usize, k: usize) -> DeclarationRead
+    ensures { λ r. ⌜ (Inside (now (s .entry)) (now (table .entry)) (now (work .entry)) at rows → k < length (now (list .entry)) / 5 → Declares (one-declaration (now (s .entry)) (length (now (table .entry)) / 8) (position-at at rows)) rows k (now (table .entry)) (now (list .entry)) r (now (table .exit)) (now (list .exit))) ⌝ }
+{
+    let l = expects::next_atom(s, at);
+    match l {
+        Lexed::Refused(r) => DeclarationRead::Refused(r),
+        Lexed::Got(tag) => {
+            let a = tag.start;
+            let e = tag.end;
+            let kind = expects::declaration_kind(&s[a..e]);
+            if kind == 0 {
+                return DeclarationRead::Refused(malformed(a));
+            }
+            read_named(s, table, list, work, kind, e, rows, k)
+        }
+    }
+}
+
+// What stands next: the end, or a declaration. A full list is refused before the declaration's word is read.
+fn next_declaration(s: &[u8], table: &mut [u32], list: &mut [u32], work: &mut [u32], at: usize, rows: usize, k: usize) -> Step
+    ensures { λ r. ⌜ (Inside (now (s .entry)) (now (table .entry)) (now (work .entry)) at rows → k ≤ length (now (list .entry)) / 5 → Stepped (now (s .entry)) (now (table .entry)) (now (list .entry)) at rows k r (now (table .exit)) (now (list .exit)) (now (work .exit))) ⌝ }
+    ensures { λ r. ⌜ HasRoom (now (list .entry)) k r ⌝ }
+{
+    let l = token::next_token(s, at);
+    match l {
+        Lexed::Refused(r) => Step::Refused(r),
+        Lexed::Got(t) => {
+            let kind = t.kind;
+            match kind {
+                TokenKind::Eof => Step::End,
+                TokenKind::LParen => {
+                    if list.len() / 5 <= k {
+                        return Step::Refused(full());
+                    }
+                    let d = read_declaration(s, table, list, work, t.end, rows, k);
+                    match d {
+                        DeclarationRead::Refused(r) => Step::Refused(r),
+                        DeclarationRead::Done { rows: n, next } => Step::Declared {
+                            rows: n,
+                            next: next,
+                        },
+                    }
+                }
+                _ => Step::Refused(malformed(t.start)),
+            }
+        }
+    }
+}
+
+// Declarations from an offset to the end, into empty tables.
+fn read_declarations(s: &[u8], table: &mut [u32], list: &mut [u32], work: &mut [u32], from: usize) -> ModuleRead
+    ensures { λ r. ⌜ (Inside (now (s .entry)) (now (table .entry)) (now (work .entry)) from 0 → ReadsFrom 0 0 (left (now (s .entry)) (now (table .entry)) (now (list .entry)) from 0 0) (now (table .entry)) (now (list .entry)) r (now (table .exit)) (now (list .exit))) ⌝ }
+{
+    let mut at = from;
+    let mut rows = 0;
+    let mut k = 0;
+    loop {
+        let step = next_declaration(s, table, list, work, at, rows, k);
+        match step {
+            Step::Refused(r) => {
+                return ModuleRead::Refused(r);
+            }
+            Step::End => {
+                return ModuleRead::Done {
+                    rows: rows,
+                    declarations: k,
+                };
+            }
+            Step::Declared { rows: n, next } => {
+                at = next;
+                rows = n;
+                k += 1;
+            }
+        }
+    }
+}
+
+pub fn read_module(s: &[u8], table: &mut [u32], list: &mut [u32], work: &mut [u32]) -> ModuleRead
+    ensures { λ r. ⌜ (length (now (s .entry)) ≤ 65535 → 16384 ≤ length (now (work .entry)) → ReadsModule (read-module (now (s .entry)) (length (now (table .entry)) / 8) (length (now (list .entry)) / 5) 512 start) (now (table .entry)) (now (list .entry)) r (now (table .exit)) (now (list .exit))) ⌝ }
+{
+    let h = expects::read_head(s);
+    match h {
+        HeadRead::Refused(r) => ModuleRead::Refused(r),
+        HeadRead::Name(_, next) => read_declarations(s, table, list, work, next),
+    }
+}

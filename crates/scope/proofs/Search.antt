@@ -1,0 +1,79 @@
+-- A walk over a list of names that passes one name after the other. Assumes nothing.
+use Prim.Native.Nat.{ℕ, zero, suc, _+_, _-_, _*_, _<_}
+use mathlib.Core.Path.{_≡_, refl, sym, _∙_, ap, ap₂}
+use mathlib.Core.List.{List, [], _∷_}
+use mathlib.Core.Option.{Option, none, some}
+use mathlib.Core.Bool.{Bool, true, false}
+use native.Mathlib.Omega.{arith}
+use native.Mathlib.Numerals.{add-one}
+use lib.ListN.{getD}
+use Rattle.words.specs.Words.{same-bytes}
+use Rattle.terms.specs.Label.{Name, part}
+use Rattle.terms.specs.Resolution.{next-number, find, referent, core-of}
+use Rattle.scope.specs.Scope.{local-names, declared-names, reference}
+
+-- A number counted from the k-th name on, as one counted from the first.
+abbrev counted : ℕ → Option ℕ → Option ℕ
+counted k none = none
+counted k (some i) = some (k + i)
+
+counted-none : (o : Option ℕ) → o ≡ counted 0 o
+counted-none none = refl
+counted-none (some i) = ap some (let q : i ≡ 0 + i = omega arith in q)
+
+counted-next : (k : ℕ) (o : Option ℕ) → counted k (next-number o) ≡ counted (k + 1) o
+counted-next k none = refl
+counted-next k (some i) = ap some (let q : k + suc i ≡ k + 1 + i = omega arith in q)
+
+module _ (x : Name) where
+  -- Of the names `all`, k were passed and `rest` are left.
+  abbrev pub Passed : List Name → ℕ → List Name → Type 0
+  Passed all k rest = find x all ≡ counted k (find x rest)
+
+  pub passed-none : (all : List Name) → Passed all 0 all
+  passed-none all = counted-none (find x all)
+
+  module _ (all : List Name) (k : ℕ) (left : List Name) (p : Passed all k left) where
+    pub hit : (y : Name) (rest : List Name) → left ≡ y ∷ rest → same-bytes x y ≡ true → some k ≡ find x all
+    unfolding find
+    hit y rest q e = sym (p ∙ rw (q, find, e) (ap some (let z : k + 0 ≡ k = omega arith in z)))
+
+    pub miss : (y : Name) (rest : List Name) → left ≡ y ∷ rest → same-bytes x y ≡ false → Passed all (k + 1) rest
+    unfolding find
+    miss y rest q e = p ∙ rw (q, find, e) (counted-next k (find x rest))
+
+    pub passed-all : left ≡ [] → none ≡ find x all
+    unfolding find
+    passed-all q = sym (p ∙ rw q)
+
+  -- What a comparison with the name at two words says.
+  pub compared : (s : List ℕ) (a m a' m' : ℕ) (r b : Bool) → a ≡ a' → m ≡ m' → r ≡ same-bytes x (part s a m) → r ≡ b → same-bytes x (part s a' m') ≡ b
+  compared s a m a' m' r b p q e h = (λ i. same-bytes x (part s (sym p i) (sym q i))) ∙ sym e ∙ h
+
+-- The name on top of the locals.
+pub innermost : (s w : List ℕ) (d : ℕ) → 0 < d
+    → local-names s w d ≡ part s (getD w ((d - 1) * 2) 0) (getD w ((d - 1) * 2 + 1) 0) ∷ local-names s w (d - 1)
+unfolding local-names
+innermost s w d h = ap (local-names s w) (let q : d ≡ suc (d - 1) = omega arith in q)
+
+pub no-local : (s w : List ℕ) (d : ℕ) → d ≡ 0 → local-names s w d ≡ []
+unfolding local-names
+no-local s w d e = rw e
+
+-- The name of the declaration at place k.
+pub declared-next : (s t : List ℕ) (k d : ℕ) → k < d
+    → declared-names s t k (d - k) ≡ part s (getD t (k * 5 + 1) 0) (getD t (k * 5 + 2) 0) ∷ declared-names s t (k + 1) (d - (k + 1))
+unfolding declared-names
+declared-next s t k d h =
+    ap (declared-names s t k) (let q : d - k ≡ suc (d - (k + 1)) = omega arith in q)
+    ∙ ap (λ (i : ℕ). part s (getD t (k * 5 + 1) 0) (getD t (k * 5 + 2) 0) ∷ declared-names s t i (d - (k + 1))) (sym (add-one k))
+
+pub no-declaration : (s t : List ℕ) (k d : ℕ) → d ≡ k → declared-names s t k (d - k) ≡ []
+unfolding declared-names
+no-declaration s t k d e = ap (declared-names s t k) (let q : d - k ≡ 0 = omega arith in q)
+
+-- What the two walks say of a reference.
+pub referred : (s : List ℕ) (locals globals : List Name) (a n : ℕ) (l g : Option ℕ) → l ≡ find (part s a n) locals → g ≡ find (part s a n) globals
+    → referent l g ≡ core-of s locals globals (reference a n)
+unfolding core-of
+referred s locals globals a n l g p q = ap₂ referent p q

@@ -1,0 +1,98 @@
+-- `find_local` meets its contract: the binders passed do not have the name. Assumes nothing.
+use Prim.Native.Nat.{_+_, _≤_}
+use mathlib.Core.Path.{_≡_, sym, _∙_, subst}
+use native.Mathlib.Omega.{arith}
+use borrow.Author.Needs.{needs}
+use Rattle.terms.specs.Label.{part}
+use Rattle.scope.specs.Scope.{local-names}
+use Rattle.scope.proofs.Search.{Passed, passed-none, hit, miss, passed-all, compared, innermost, no-local}
+use Rattle.scope.proofs.find_local.Statement.{statement}
+use Rattle.scope.proofs.find_local.Tie as tie
+
+abbrev Inv-loop : tie.InvT-loop
+Inv-loop s work depth start length d₀ count₀ d count =
+    (count + d ≡ depth) × (depth ≤ 512) × Passed (part s start length) (local-names s work depth) count (local-names s work d)
+
+abbrev μ-loop : tie.MeasureT-loop
+μ-loop s work depth start length d₀ count₀ d count = d
+
+returns : tie.Need-returns Inv-loop μ-loop
+returns c = λ h. absurd (omega arith)
+
+loop-holds : tie.Need-loop-holds Inv-loop μ-loop
+loop-holds c =
+    let a = c .before .before .before .args in
+    (omega arith, omega arith, passed-none (part (a .s .now) (a .start) (a .length)) (local-names (a .s .now) (a .work .now) (a .depth)))
+
+sub-d : tie.Need-sub-d Inv-loop μ-loop
+sub-d c = omega arith
+
+mul-i : tie.Need-mul-i Inv-loop μ-loop
+mul-i c = omega arith
+
+word-at-requires : tie.Need-word-at-requires Inv-loop μ-loop
+word-at-requires c κs = search needs
+
+add-word-at : tie.Need-add-word-at Inv-loop μ-loop
+add-word-at c = omega arith
+
+word-at-requires-2 : tie.Need-word-at-requires-2 Inv-loop μ-loop
+word-at-requires-2 c κs = search needs
+
+same-name-requires : tie.Need-same-name-requires Inv-loop μ-loop
+same-name-requires c κs = search needs
+
+cast-number : tie.Need-cast-number Inv-loop μ-loop
+cast-number c = omega arith
+
+returns-2 : tie.Need-returns-2 Inv-loop μ-loop
+returns-2 c =
+    let l = c .before .before .before .before .before in
+    let a = l .before .before .before .before .args in
+    let x = part (a .s .now) (a .start) (a .length) in
+    λ h. hit x _ _ _ (l .loop .inv .2) _ _ (innermost (a .s .now) (a .work .now) (l .loop .d) (omega arith))
+    (compared x (a .s .now) _ _ _ _ _ _ (c .before .before .before .word-at .ensures) (c .before .before .word-at2 .ensures) (c .before .same-name .ensures) (c .if2 .taken))
+
+add-count : tie.Need-add-count Inv-loop μ-loop
+add-count c = omega arith
+
+loop-less : tie.Need-loop-less Inv-loop μ-loop
+loop-less c = omega arith
+
+loop-again : tie.Need-loop-again Inv-loop μ-loop
+loop-again c =
+    let l = c .before .before .before .before .before in
+    let a = l .before .before .before .before .args in
+    let x = part (a .s .now) (a .start) (a .length) in (
+      omega arith,
+      omega arith,
+      miss x _ _ _ (l .loop .inv .2) _ _ (innermost (a .s .now) (a .work .now) (l .loop .d) (omega arith))
+          (compared x (a .s .now) _ _ _ _ _ _ (c .before .before .before .word-at .ensures) (c .before .before .word-at2 .ensures) (c .before .same-name .ensures) (c .if2 .left)),
+    )
+
+returns-3 : tie.Need-returns-3 Inv-loop μ-loop
+returns-3 c =
+    let l = c .before in
+    let a = l .before .before .before .before .args in
+    λ h. passed-all (part (a .s .now) (a .start) (a .length)) _ _ _ (l .loop .inv .2) (no-local (a .s .now) (a .work .now) (l .loop .d) (omega arith))
+
+pub find-local-spec : {M : Type 1} → statement M
+find-local-spec =
+    tie.close
+    (tie.spec
+    Inv-loop
+    μ-loop
+    returns
+    loop-holds
+    sub-d
+    mul-i
+    word-at-requires
+    add-word-at
+    word-at-requires-2
+    same-name-requires
+    cast-number
+    returns-2
+    add-count
+    loop-less
+    loop-again
+    returns-3)

@@ -1,0 +1,113 @@
+// What a name refers to: a local, the innermost first, or else an earlier declaration. Names are parts of the source, compared by bytes.
+// The port of the lookups in `elaborate_term`, surface/elaborate.rs. Document 01, "The core module".
+ghost use mathlib.Core.Path.{_≡_};
+ghost use Prim.Native.Nat.{_≤_};
+ghost use Rattle.words.specs.Words.{same-bytes};
+ghost use Rattle.terms.specs.Label.{part};
+ghost use Rattle.terms.specs.Resolution.{find, core-of};
+ghost use Rattle.scope.specs.Scope.{place-of, core-of-referent, local-names, declared-names, reference};
+
+// The number of a name in a list of names, counted from 0.
+pub enum Found {
+    At(u32),
+    Nothing,
+}
+
+pub enum Referent {
+    Var(u32),
+    Global(u32),
+    Unknown,
+}
+
+// A name or numeral as a part of the source; what runs past the end is cut off.
+pub fn atom(s: &[u8], start: u32, length: u32) -> &[u8]
+    ensures { λ r. ⌜ now r ≡ part (now (s .entry)) start length ⌝ }
+{
+    let a = start as usize;
+    let n = length as usize;
+    if s.len() <= a {
+        &s[..0]
+    } else {
+        if s.len() - a <= n {
+            &s[a..]
+        } else {
+            &s[a..a + n]
+        }
+    }
+}
+
+pub fn same_name(s: &[u8], a: u32, n: u32, b: u32, m: u32) -> bool
+    ensures { λ r. ⌜ r ≡ same-bytes (part (now (s .entry)) a n) (part (now (s .entry)) b m) ⌝ }
+{
+    let x = atom(s, a, n);
+    let y = atom(s, b, m);
+    words::same_bytes(x, y)
+}
+
+// How many binders lie between a name and the innermost one of that name; at most 512 are in scope.
+pub fn find_local(s: &[u8], work: &[u32], depth: usize, start: u32, length: u32) -> Found
+    ensures { λ r. ⌜ (depth ≤ 512 → place-of r ≡ find (part (now (s .entry)) start length) (local-names (now (s .entry)) (now (work .entry)) depth)) ⌝ }
+{
+    if 512 < depth {
+        return Found::Nothing;
+    }
+    let mut d = depth;
+    let mut count: usize = 0;
+    while 0 < d {
+        d -= 1;
+        let i = d * 2;
+        let a = tables::word_at(work, i);
+        let n = tables::word_at(work, i + 1);
+        if same_name(s, start, length, a, n) {
+            let number = count as u32;
+            return Found::At(number);
+        }
+        count += 1;
+    }
+    Found::Nothing
+}
+
+// The place of the first of d declarations that has a name.
+pub fn find_global(s: &[u8], declarations: &[u32], d: usize, start: u32, length: u32) -> Found
+    ensures { λ r. ⌜ (d ≤ 4294967295 → place-of r ≡ find (part (now (s .entry)) start length) (declared-names (now (s .entry)) (now (declarations .entry)) 0 d)) ⌝ }
+{
+    if 4294967295 < d {
+        return Found::Nothing;
+    }
+    let mut k: usize = 0;
+    while k < d {
+        let a = tables::word_at(declarations, k * 5 + 1);
+        let n = tables::word_at(declarations, k * 5 + 2);
+        if same_name(s, start, length, a, n) {
+            let place = k as u32;
+            return Found::At(place);
+        }
+        k += 1;
+    }
+    Found::Nothing
+}
+
+// "A local hides a declaration."
+pub fn find_name(
+    s: &[u8],
+    work: &[u32],
+    declarations: &[u32],
+    depth: usize,
+    d: usize,
+    start: u32,
+    length: u32,
+) -> Referent
+    ensures { λ r. ⌜ (depth ≤ 512 → d ≤ 4294967295 → core-of-referent r ≡ core-of (now (s .entry)) (local-names (now (s .entry)) (now (work .entry)) depth) (declared-names (now (s .entry)) (now (declarations .entry)) 0 d) (reference start length)) ⌝ }
+{
+    let l = find_local(s, work, depth, start, length);
+    match l {
+        Found::At(i) => Referent::Var(i),
+        Found::Nothing => {
+            let g = find_global(s, declarations, d, start, length);
+            match g {
+                Found::At(j) => Referent::Global(j),
+                Found::Nothing => Referent::Unknown,
+            }
+        }
+    }
+}

@@ -1,0 +1,63 @@
+-- The stacks read from a work area: how many items they have, and that only their own words count. Assumes nothing.
+use Prim.Native.Nat.{ℕ, zero, suc, _+_, _-_, _*_, _≤_, _<_}
+use mathlib.Core.Path.{_≡_, refl, sym, _∙_, ap, ap₂}
+use mathlib.Core.List.{List, [], _∷_, _++_, append-nil}
+use native.Mathlib.Omega.{arith}
+use native.Mathlib.Nat.{add-zero, add-suc}
+use lib.ListN.{length, getD, take, drop, length-append}
+use lib.Seq.{take-append-le, drop-append-le, take-all, drop-length}
+use Rattle.terms.specs.Label.{part}
+use Rattle.scope.specs.Scope.{local-names}
+use Rattle.stacks.specs.Stacks.{work-of, works-in, values-in}
+
+pub length-works : (w : List ℕ) (t : ℕ) → length (works-in w t) ≡ t
+unfolding works-in
+length-works w zero = refl
+length-works w (suc t) = ap suc (length-works w t)
+
+pub length-values : (w : List ℕ) (v : ℕ) → length (values-in w v) ≡ v
+unfolding values-in
+length-values w zero = refl
+length-values w (suc v) = omega (arith, length-append (values-in w v) (getD w (2048 + v) 0 ∷ []), length-values w v)
+
+-- The values below the top.
+pub values-below : (w : List ℕ) (b n : ℕ) → take b (values-in w (b + n)) ≡ values-in w b
+unfolding values-in
+values-below w b zero = ap (λ (k : ℕ). take b (values-in w k)) (add-zero b) ∙ take-all b (values-in w b) (omega (arith, length-values w b))
+values-below w b (suc n) =
+    ap (λ (k : ℕ). take b (values-in w k)) (add-suc b n)
+    ∙ take-append-le b (values-in w (b + n)) (getD w (2048 + (b + n)) 0 ∷ []) (omega (arith, length-values w (b + n)))
+    ∙ values-below w b n
+
+-- Two work areas have the same words between two places.
+abbrev pub Same : List ℕ → List ℕ → ℕ → ℕ → Type 0
+Same w w' from to = (j : ℕ) → from ≤ j → j < to → getD w' j 0 ≡ getD w j 0
+
+module _ (w w' : List ℕ) where
+  pub same-works : (t : ℕ) → Same w w' 5120 (5120 + t * 3) → works-in w' t ≡ works-in w t
+  unfolding works-in
+  same-works zero h = refl
+  same-works (suc t) h =
+      let i = 5120 + t * 3 in
+      let tail = same-works t (λ j p q. h j p (omega arith)) in
+      let a = h i (omega arith) (omega arith) in
+      let b = h (i + 1) (omega arith) (omega arith) in
+      let c = h (i + 2) (omega arith) (omega arith) in
+      λ k. work-of (a k) (b k) (c k) ∷ tail k
+
+  pub same-values : (v : ℕ) → Same w w' 2048 (2048 + v) → values-in w' v ≡ values-in w v
+  unfolding values-in
+  same-values zero h = refl
+  same-values (suc v) h =
+      let front = same-values v (λ j p q. h j p (omega arith)) in
+      let a = h (2048 + v) (omega arith) (omega arith) in
+      λ k. front k ++ (a k ∷ [])
+
+  pub same-locals : (s : List ℕ) (l : ℕ) → Same w w' 0 (l * 2) → local-names s w' l ≡ local-names s w l
+  unfolding local-names
+  same-locals s zero h = refl
+  same-locals s (suc l) h =
+      let tail = same-locals s l (λ j p q. h j p (omega arith)) in
+      let a = h (l * 2) (omega arith) (omega arith) in
+      let b = h (l * 2 + 1) (omega arith) (omega arith) in
+      λ k. part s (a k) (b k) ∷ tail k

@@ -1,0 +1,3 @@
+pub mod Decoding
+mod Pushing
+mod Popping

@@ -1,0 +1,51 @@
+-- The three stacks in the work area: names in scope from word 0, values from word 2,048, work items from word 5,120. Assumes nothing.
+use Prim.Native.Nat.{ℕ, zero, suc, _+_, _*_, _≤_}
+use mathlib.Core.Path.{_≡_}
+use mathlib.Core.List.{List, [], _∷_, _++_}
+use mathlib.Core.Bool.{true, false}
+use lib.ListN.{length, getD}
+use lib.Dec.{eqb}
+use Rattle.terms.specs.Label.{part}
+use Rattle.scope.specs.Scope.{local-names}
+use Rattle.stacks.specs.declared.Work.{Work}
+
+-- A work item's three words: 1 Eval, 2 PushLocal, 3 PopLocal, otherwise Build; and what it holds.
+unfoldable pub work-of : ℕ → ℕ → ℕ → Work
+work-of op a b =
+    elim (eqb op 1) [
+      | true ↦ Work.Eval a b
+      | false ↦ elim (eqb op 2) [
+        | true ↦ Work.PushLocal a b
+        | false ↦ elim (eqb op 3) [ true ↦ Work.PopLocal | false ↦ Work.Build a b ]
+      ]
+    ]
+
+-- The first t work items, the one on top in front.
+unfoldable pub works-in : List ℕ → ℕ → List Work
+works-in w zero = []
+works-in w (suc t) = work-of (getD w (5120 + t * 3) 0) (getD w (5120 + t * 3 + 1) 0) (getD w (5120 + t * 3 + 2) 0) ∷ works-in w t
+
+-- The first v values, the lowest in front.
+unfoldable pub values-in : List ℕ → ℕ → List ℕ
+values-in w zero = []
+values-in w (suc v) = values-in w v ++ (getD w (2048 + v) 0 ∷ [])
+
+-- "11 work area under 16,384 words"
+abbrev pub WorkArea : List ℕ → Type 0
+WorkArea w = 16384 ≤ length w
+
+-- The work items have become `items`, of which there are t; the other stacks are as they were.
+pub record WorkPushed (w w' : List ℕ) (t : ℕ) (items : List Work) : Type 0 where
+  pub works : works-in w' t ≡ items
+  pub values : (v : ℕ) → v ≤ 3072 → values-in w' v ≡ values-in w v
+  pub locals : (s : List ℕ) (l : ℕ) → l ≤ 512 → local-names s w' l ≡ local-names s w l
+
+pub record ValuePushed (w w' : List ℕ) (v value : ℕ) : Type 0 where
+  pub works : (t : ℕ) → works-in w' t ≡ works-in w t
+  pub values : values-in w' (v + 1) ≡ values-in w v ++ (value ∷ [])
+  pub locals : (s : List ℕ) (l : ℕ) → l ≤ 512 → local-names s w' l ≡ local-names s w l
+
+pub record LocalPushed (w w' : List ℕ) (l start n : ℕ) : Type 0 where
+  pub works : (t : ℕ) → works-in w' t ≡ works-in w t
+  pub values : (v : ℕ) → values-in w' v ≡ values-in w v
+  pub locals : (s : List ℕ) → local-names s w' (l + 1) ≡ part s start n ∷ local-names s w l
