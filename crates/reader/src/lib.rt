@@ -74,7 +74,14 @@ fn declaration_record(kind: u32, name: Token, type_row: u32, body_row: u32) -> [
 }
 
 // The body of a declaration: a postulate, of kind 1, has none.
-fn read_body(s: &[u8], table: &mut [u32], work: &mut [u32], kind: u32, at: usize, rows: usize) -> TermRead
+fn read_body(
+    s: &[u8],
+    table: &mut [u32],
+    work: &mut [u32],
+    kind: u32,
+    at: usize,
+    rows: usize,
+) -> TermRead
     ensures { λ r. ⌜ (Inside (now (s .entry)) (now (table .entry)) (now (work .entry)) at rows → (j : ℕ) → kind ≡ suc j → BodyReads (one-body (now (s .entry)) (length (now (table .entry)) / 8) j (position-at at rows)) rows (now (table .entry)) r (now (table .exit))) ⌝ }
 {
     if kind == 1 {
@@ -88,7 +95,14 @@ fn read_body(s: &[u8], table: &mut [u32], work: &mut [u32], kind: u32, at: usize
 }
 
 // The closing parenthesis of a declaration, and only then its record.
-fn finish_declaration(s: &[u8], list: &mut [u32], at: usize, rows: usize, k: usize, record: [u32; 5]) -> DeclarationRead
+fn finish_declaration(
+    s: &[u8],
+    list: &mut [u32],
+    at: usize,
+    rows: usize,
+    k: usize,
+    record: [u32; 5],
+) -> DeclarationRead
     ensures { λ r. ⌜ Finishes (closing (now (s .entry)) (position-at at rows)) k (now (list .entry)) «record» r (now (list .exit)) ⌝ }
 {
     let l = expects::expect_rparen(s, at);
@@ -105,7 +119,16 @@ fn finish_declaration(s: &[u8], list: &mut [u32], at: usize, rows: usize, k: usi
 }
 
 // A declaration of some kind behind its word: its name, its type, its body if the kind has one, and its end.
-fn read_named(s: &[u8], table: &mut [u32], list: &mut [u32], work: &mut [u32], kind: u32, at: usize, rows: usize, k: usize) -> DeclarationRead
+fn read_named(
+    s: &[u8],
+    table: &mut [u32],
+    list: &mut [u32],
+    work: &mut [u32],
+    kind: u32,
+    at: usize,
+    rows: usize,
+    k: usize,
+) -> DeclarationRead
     ensures { λ r. ⌜ (Inside (now (s .entry)) (now (table .entry)) (now (work .entry)) at rows → k < length (now (list .entry)) / 5 → (t : Token) (j : ℕ) → kind ≡ suc j → Declares (named-declaration (now (s .entry)) (length (now (table .entry)) / 8) t (suc j) (position-at at rows)) rows k (now (table .entry)) (now (list .entry)) r (now (table .exit)) (now (list .exit))) ⌝ }
 {
     let l = expects::parse_identifier(s, at);
@@ -139,7 +162,15 @@ fn read_named(s: &[u8], table: &mut [u32], list: &mut [u32], work: &mut [u32], k
 }
 
 // The declaration behind an opening parenthesis, behind n rows and k declarations: its rows and its record are stored.
-pub fn read_declaration(s: &[u8], table: &mut [u32], list: &mut [u32], work: &mut [u32], at: usize, rows: usize, k: usize) -> DeclarationRead
+pub fn read_declaration(
+    s: &[u8],
+    table: &mut [u32],
+    list: &mut [u32],
+    work: &mut [u32],
+    at: usize,
+    rows: usize,
+    k: usize,
+) -> DeclarationRead
     ensures { λ r. ⌜ (Inside (now (s .entry)) (now (table .entry)) (now (work .entry)) at rows → k < length (now (list .entry)) / 5 → Declares (one-declaration (now (s .entry)) (length (now (table .entry)) / 8) (position-at at rows)) rows k (now (table .entry)) (now (list .entry)) r (now (table .exit)) (now (list .exit))) ⌝ }
 {
     let l = expects::next_atom(s, at);
@@ -158,7 +189,15 @@ pub fn read_declaration(s: &[u8], table: &mut [u32], list: &mut [u32], work: &mu
 }
 
 // What stands next: the end, or a declaration. A full list is refused before the declaration's word is read.
-fn next_declaration(s: &[u8], table: &mut [u32], list: &mut [u32], work: &mut [u32], at: usize, rows: usize, k: usize) -> Step
+fn next_declaration(
+    s: &[u8],
+    table: &mut [u32],
+    list: &mut [u32],
+    work: &mut [u32],
+    at: usize,
+    rows: usize,
+    k: usize,
+) -> Step
     ensures { λ r. ⌜ (Inside (now (s .entry)) (now (table .entry)) (now (work .entry)) at rows → k ≤ length (now (list .entry)) / 5 → Stepped (now (s .entry)) (now (table .entry)) (now (list .entry)) at rows k r (now (table .exit)) (now (list .exit)) (now (work .exit))) ⌝ }
     ensures { λ r. ⌜ HasRoom (now (list .entry)) k r ⌝ }
 {
@@ -189,7 +228,13 @@ fn next_declaration(s: &[u8], table: &mut [u32], list: &mut [u32], work: &mut [u
 }
 
 // Declarations from an offset to the end, into empty tables.
-fn read_declarations(s: &[u8], table: &mut [u32], list: &mut [u32], work: &mut [u32], from: usize) -> ModuleRead
+fn read_declarations(
+    s: &[u8],
+    table: &mut [u32],
+    list: &mut [u32],
+    work: &mut [u32],
+    from: usize,
+) -> ModuleRead
     ensures { λ r. ⌜ (Inside (now (s .entry)) (now (table .entry)) (now (work .entry)) from 0 → ReadsFrom 0 0 (left (now (s .entry)) (now (table .entry)) (now (list .entry)) from 0 0) (now (table .entry)) (now (list .entry)) r (now (table .exit)) (now (list .exit))) ⌝ }
 {
     let mut at = from;

@@ -45,9 +45,11 @@ returns c =
     let f = c .before in
     let x = f .before .before .before .before in
     let i = x .before .before in
-    let a = i .before .before .before .before .before .args in
-    (λ w few. next-full (a .s .now) (length (a .table .now) / 8) (a .at) (a .rows) (length (a .list .now) / 5 - a .k) (i .next-token .result) (i .next-token .ensures)
-    (x .l2 .given .0 .0) (x .l2 .given .1) (f .before .enum-told2 .given .1) (omega arith) _ (c .full .ensures), tt)
+    let a = i .before .before .before .before .before .args in (
+      λ w few. next-full (a .s .now) (length (a .table .now) / 8) (a .at) (a .rows) (length (a .list .now) / 5 - a .k) (i .next-token .result) (i .next-token .ensures)
+          (x .l2 .given .0 .0) (x .l2 .given .1) (f .before .enum-told2 .given .1) (omega arith) _ (c .full .ensures),
+      tt,
+    )
 
 -- src/lib.rt:176:25
 read-declaration-requires : tie.Need-read-declaration-requires
@@ -78,9 +80,11 @@ returns-3 : tie.Need-returns-3
 returns-3 c =
     let x = c .before .before .before in
     let i = x .before .before in
-    let a = i .before .before .before .before .before .args in
-    (λ w few. ends-here (a .s .now) (a .table .now) (a .list .now) (a .at) (a .rows) (a .k) (i .next-token .result) (i .next-token .ensures)
-    (x .l2 .given .0 .0) (x .l2 .given .1) (c .enum-told .given .1), tt)
+    let a = i .before .before .before .before .before .args in (
+      λ w few. ends-here (a .s .now) (a .table .now) (a .list .now) (a .at) (a .rows) (a .k) (i .next-token .result) (i .next-token .ensures)
+          (x .l2 .given .0 .0) (x .l2 .given .1) (c .enum-told .given .1),
+      tt,
+    )
 
 -- src/lib.rt:161:1
 same-length : tie.Need-same-length
@@ -102,13 +106,15 @@ returns-4 c =
     let f = d .before .before .before .before in
     let x = f .before .before .before .before in
     let i = x .before .before in
-    let a = i .before .before .before .before .before .args in
-    (λ w few. declaration-stops (a .s .now) (a .table .now) (a .list .now) (a .at) (a .rows) (a .k) (a .work .now) (d .read-declaration .last .1 .1 .1 .0) w (omega arith)
-    (i .next-token .result) (i .next-token .ensures) (x .l2 .given .0 .0) (x .l2 .given .1) (f .before .enum-told2 .given .1)
-    (d .read-declaration .result) (d .read-declaration .last .1 .0) (d .read-declaration .last .1 .1 .0)
-    (d .read-declaration .kept .1 .0) (d .read-declaration .kept .1 .1 .0) (d .read-declaration .kept .1 .1 .1 .0)
-    (d .read-declaration .ensures (behind-parenthesis (a .s .now) (a .table .now) (a .list .now) (a .at) (a .rows) (a .k) (a .work .now) (d .read-declaration .last .1 .1 .1 .0) w (omega arith)
-    (i .next-token .result) (i .next-token .ensures) (x .l2 .given .0 .0) (x .l2 .given .1) (f .before .enum-told2 .given .1)) (omega arith)) _ (y .d .given .1), tt)
+    let a = i .before .before .before .before .before .args in (
+      λ w few. declaration-stops (a .s .now) (a .table .now) (a .list .now) (a .at) (a .rows) (a .k) (a .work .now) (d .read-declaration .last .1 .1 .1 .0) w (omega arith)
+          (i .next-token .result) (i .next-token .ensures) (x .l2 .given .0 .0) (x .l2 .given .1) (f .before .enum-told2 .given .1)
+          (d .read-declaration .result) (d .read-declaration .last .1 .0) (d .read-declaration .last .1 .1 .0)
+          (d .read-declaration .kept .1 .0) (d .read-declaration .kept .1 .1 .0) (d .read-declaration .kept .1 .1 .1 .0)
+          (d .read-declaration .ensures (behind-parenthesis (a .s .now) (a .table .now) (a .list .now) (a .at) (a .rows) (a .k) (a .work .now) (d .read-declaration .last .1 .1 .1 .0) w (omega arith)
+          (i .next-token .result) (i .next-token .ensures) (x .l2 .given .0 .0) (x .l2 .given .1) (f .before .enum-told2 .given .1)) (omega arith)) _ (y .d .given .1),
+      tt,
+    )
 
 -- src/lib.rt:161:1
 same-length-4 : tie.Need-same-length-4
@@ -130,24 +136,28 @@ returns-5 c =
     let f = d .before .before .before .before in
     let x = f .before .before .before .before in
     let i = x .before .before in
-    let a = i .before .before .before .before .before .args in
-    (λ w few. went (a .s .now) (a .table .now) (a .list .now) (a .at) (a .rows) (a .k) (a .work .now) (d .read-declaration .last .1 .1 .1 .0) w (omega arith)
-    (i .next-token .result) (i .next-token .ensures) (x .l2 .given .0 .0) (x .l2 .given .1) (f .before .enum-told2 .given .1)
-    (d .read-declaration .result) (d .read-declaration .last .1 .0) (d .read-declaration .last .1 .1 .0)
-    (d .read-declaration .kept .1 .0) (d .read-declaration .kept .1 .1 .0) (d .read-declaration .kept .1 .1 .1 .0)
-    (d .read-declaration .ensures (behind-parenthesis (a .s .now) (a .table .now) (a .list .now) (a .at) (a .rows) (a .k) (a .work .now) (d .read-declaration .last .1 .1 .1 .0) w (omega arith)
-    (i .next-token .result) (i .next-token .ensures) (x .l2 .given .0 .0) (x .l2 .given .1) (f .before .enum-told2 .given .1)) (omega arith)) _ _ (y .d2 .given .1), omega arith)
+    let a = i .before .before .before .before .before .args in (
+      λ w few. went (a .s .now) (a .table .now) (a .list .now) (a .at) (a .rows) (a .k) (a .work .now) (d .read-declaration .last .1 .1 .1 .0) w (omega arith)
+          (i .next-token .result) (i .next-token .ensures) (x .l2 .given .0 .0) (x .l2 .given .1) (f .before .enum-told2 .given .1)
+          (d .read-declaration .result) (d .read-declaration .last .1 .0) (d .read-declaration .last .1 .1 .0)
+          (d .read-declaration .kept .1 .0) (d .read-declaration .kept .1 .1 .0) (d .read-declaration .kept .1 .1 .1 .0)
+          (d .read-declaration .ensures (behind-parenthesis (a .s .now) (a .table .now) (a .list .now) (a .at) (a .rows) (a .k) (a .work .now) (d .read-declaration .last .1 .1 .1 .0) w (omega arith)
+          (i .next-token .result) (i .next-token .ensures) (x .l2 .given .0 .0) (x .l2 .given .1) (f .before .enum-told2 .given .1)) (omega arith)) _ _ (y .d2 .given .1),
+      omega arith,
+    )
 
 -- src/lib.rt:161:1
 returns-6 : tie.Need-returns-6
 returns-6 c =
     let x = c .before .before .before in
     let i = x .before .before in
-    let a = i .before .before .before .before .before .args in
-    (λ w few. next-other (a .s .now) (length (a .table .now) / 8) (a .at) (a .rows) (length (a .list .now) / 5 - a .k) (i .next-token .result) (i .next-token .ensures)
-    (x .l2 .given .0 .0) (x .l2 .given .1)
-    (λ q. miss (1 ∷ 2 ∷ []) 0 tt (rw q at (c .before .match2 .keys3)))
-    (λ q. miss (1 ∷ 2 ∷ []) 3 tt (rw q at (c .before .match2 .keys3))) _ (c .malformed .ensures), tt)
+    let a = i .before .before .before .before .before .args in (
+      λ w few. next-other (a .s .now) (length (a .table .now) / 8) (a .at) (a .rows) (length (a .list .now) / 5 - a .k) (i .next-token .result) (i .next-token .ensures)
+          (x .l2 .given .0 .0) (x .l2 .given .1)
+          (λ q. miss (1 ∷ 2 ∷ []) 0 tt (rw q at (c .before .match2 .keys3)))
+          (λ q. miss (1 ∷ 2 ∷ []) 3 tt (rw q at (c .before .match2 .keys3))) _ (c .malformed .ensures),
+      tt,
+    )
 
 pub next-declaration-spec : {M : Type 1} → statement M
 next-declaration-spec =

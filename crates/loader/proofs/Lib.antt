@@ -1,0 +1,6 @@
+mod Parsing
+mod WellRead
+mod Cleared
+mod Resolving
+mod Stored
+mod Left
