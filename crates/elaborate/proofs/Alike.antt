@@ -5,36 +5,19 @@ use mathlib.Core.List.{List, [], _∷_, _++_}
 use mathlib.Core.Bool.{Bool, true, false, cond}
 use native.Mathlib.Omega.{arith}
 use native.Mathlib.Decide.{ℕ-discrete}
-use borrow.Author.Tests.{eq-eqb, ne-eqb}
+use borrow.Author.Tests.{ne-eqb}
 use lib.Dec.{eqb}
-use Rattle.terms.specs.Forms.{universe, pi, lam, sigma, ref, forms, form-of-kind, has-atom, holds-span}
+use Rattle.terms.specs.Forms.{universe, pi, lam, sigma, ref, forms, form-of-kind, holds-span}
 use Rattle.terms.specs.Label.{Name, part, Label}
-use Rattle.terms.specs.Resolution.{Core, kept, var, global, unknown, core-of, covers, locals-in, is-unknown}
+use Rattle.terms.specs.Resolution.{find, Core, kept, var, global, unknown, referent, core-of, covers, locals-in, is-unknown}
 use Rattle.terms.specs.Rows.{row, span, core-words}
-use Rattle.scope.specs.Scope.{reference}
+use Rattle.terms.proofs.Spans.{core-of-ref, core-of-kept}
 use Rattle.elaborate.proofs.Covering.{covers-none}
-use Rattle.elaborate.proofs.Visiting.{core-of-ref, core-of-kept}
 
 -- Which kinds have a span: those of a reference, a universe, and what covers an argument.
-span-ref : holds-span ref ≡ true
+spans : (holds-span ref ≡ true) × (holds-span universe ≡ true) × (holds-span pi ≡ true) × (holds-span sigma ≡ true) × (holds-span lam ≡ true)
 unfolding holds-span form-of-kind forms
-span-ref = refl
-
-span-universe : holds-span universe ≡ true
-unfolding holds-span form-of-kind forms
-span-universe = refl
-
-span-pi : holds-span pi ≡ true
-unfolding holds-span form-of-kind forms
-span-pi = refl
-
-span-sigma : holds-span sigma ≡ true
-unfolding holds-span form-of-kind forms
-span-sigma = refl
-
-span-lam : holds-span lam ≡ true
-unfolding holds-span form-of-kind forms
-span-lam = refl
+spans = (refl, refl, refl, refl, refl)
 
 not-both : {A : Type 0} (b : Bool) → b ≡ true → b ≡ false → A
 not-both b p q = absurd (let z : _≡_ {A = ℕ} 0 1 = ap (λ (x : Bool). cond x 0 1) (sym p ∙ q) in omega arith)
@@ -43,9 +26,9 @@ span-covers : (k i : ℕ) → covers k i ≡ true → holds-span k ≡ true
 span-covers k i h = go (ℕ-discrete k pi) (ℕ-discrete k sigma) (ℕ-discrete k lam)
   where
     go : Dec (k ≡ pi) → Dec (k ≡ sigma) → Dec (k ≡ lam) → holds-span k ≡ true
-    go (yes p) q r = ap holds-span p ∙ span-pi
-    go (no p) (yes q) r = ap holds-span q ∙ span-sigma
-    go (no p) (no q) (yes r) = ap holds-span r ∙ span-lam
+    go (yes p) q r = ap holds-span p ∙ spans .2
+    go (no p) (yes q) r = ap holds-span q ∙ spans .3
+    go (no p) (no q) (yes r) = ap holds-span r ∙ spans .4
     go (no p) (no q) (no r) = not-both (covers k i) h (covers-none k i p q r)
 
 -- The label l' is read from the row of the label l.
@@ -66,9 +49,9 @@ module _ (s : List ℕ) (l' l : Label) (a : Alike l' l) where
       where
         go : Dec (l .kind ≡ ref) → core' ≡ core
         go (yes e) =
-            let p = a .span (ap holds-span e ∙ span-ref) in
+            let p = a .span (ap holds-span e ∙ spans .0) in
             core-of-ref s locals globals l' (a .kind ∙ e)
-            ∙ ap₂ (λ (x n : ℕ). core-of s locals globals (reference x n)) (p .0) (p .1)
+            ∙ ap₂ (λ (x n : ℕ). referent (find (part s x n) locals) (find (part s x n) globals)) (p .0) (p .1)
             ∙ sym (core-of-ref s locals globals l e)
         go (no e) = core-of-kept s locals globals l' (λ q. e (sym (a .kind) ∙ q)) ∙ sym (core-of-kept s locals globals l e)
 
@@ -77,7 +60,7 @@ module _ (s : List ℕ) (l' l : Label) (a : Alike l' l) where
     same-unknown h = go (ℕ-discrete (l .kind) ref)
       where
         go : Dec (l .kind ≡ ref) → (l' .start ≡ l .start) × (l' .length ≡ l .length)
-        go (yes e) = a .span (ap holds-span e ∙ span-ref)
+        go (yes e) = a .span (ap holds-span e ∙ spans .0)
         go (no e) = not-both (is-unknown core) h (ap is-unknown (core-of-kept s locals globals l e))
 
   pub same-locals : (locals : List Name) (i : ℕ) → locals-in s l' locals i ≡ locals-in s l locals i
@@ -97,7 +80,7 @@ module _ (s : List ℕ) (l' l : Label) (a : Alike l' l) where
 
       go : Dec (l .kind ≡ universe) → words (eqb (l .kind) universe) l' ≡ words (eqb (l .kind) universe) l
       go (yes e) =
-          let p = a .span (ap holds-span e ∙ span-universe) in
+          let p = a .span (ap holds-span e ∙ spans .1) in
           ap₂ (λ (x n : ℕ). row (l .kind) (cond (eqb (l .kind) universe) (x ∷ n ∷ []) [] ++ ids)) (p .0) (p .1)
       go (no e) =
           let q = ne-eqb (l .kind) universe e in

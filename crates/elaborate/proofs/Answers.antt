@@ -1,6 +1,6 @@
 -- From the answers for a term to those for a declaration. Assumes nothing.
-use Prim.Native.Nat.{ℕ, _+_, _*_, _/_, _≤_, _<_}
-use mathlib.Core.Path.{_≡_, refl, sym, _∙_, ap, ap₂, subst}
+use Prim.Native.Nat.{ℕ, _*_, _/_, _≤_}
+use mathlib.Core.Path.{_≡_, refl, sym, ap, ap₂, subst}
 use mathlib.Core.List.{List, []}
 use mathlib.Core.Option.{Option, none, some}
 use mathlib.Core.Bool.{Bool, true, false, not, cond}
@@ -10,11 +10,11 @@ use native.Mathlib.Decide.{decLe}
 use lib.Dec.{leb}
 use lib.ListN.{length, getD}
 use Rattle.terms.specs.Label.{part}
-use Rattle.terms.specs.Resolution.{find, refused-name}
+use Rattle.terms.specs.Resolution.{find}
 use Rattle.scope.specs.Scope.{declared-names}
 use Rattle.elaborate.specs.RowTerm.{Outcome, done, unknown-at, and-then, row-term}
 use Rattle.elaborate.specs.Machine.{Answered}
-use Rattle.elaborate.specs.Declarations.{Fitting, Whether, ModuleOutcome, resolved, refused, module-outcome, parts-outcome, record-word, declaration-outcome, Declared}
+use Rattle.elaborate.specs.Declarations.{Fitting, Whether, ModuleOutcome, parts-outcome, record-word, declaration-outcome, Declared}
 use Rattle.elaborate.specs.declared.TermDone.{TermDone}
 use Rattle.elaborate.specs.declared.Elaborated.{Elaborated}
 

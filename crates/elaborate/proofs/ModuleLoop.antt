@@ -1,26 +1,24 @@
 -- The loop of `elaborate_surface`: what all declarations come to is what the rest comes to. Assumes nothing.
-use Prim.Native.Nat.{ℕ, zero, suc, _+_, _*_, _≤_, _<_}
+use Prim.Native.Nat.{ℕ, _+_, _*_, _≤_, _<_}
 use mathlib.Core.Path.{_≡_, refl, sym, _∙_, ap, ap₂, subst}
 use mathlib.Core.List.{List, [], _∷_, _++_, map}
 use mathlib.Core.Option.{Option, none, some}
-use mathlib.Core.Bool.{Bool, true, false}
 use native.Mathlib.Omega.{arith}
 use native.Mathlib.Numerals.{add-one}
-use lib.ListN.{length, getD, take, drop, length-append, length-map}
+use lib.ListN.{length, take, drop, length-map}
 use Rattle.terms.specs.Tree.{Forest, next, cells}
 use Rattle.terms.specs.Label.{Name, Label, Declaration, trees, declared-name}
 use Rattle.terms.specs.Resolution.{find, Resolved, resolve-declaration, resolve-module, first-unknown, RefusedName, refused-name, first-refused}
-use Rattle.terms.specs.Rows.{joined, surface-row, surface-rows, core-row, core-rows}
+use Rattle.terms.specs.Rows.{core-row, core-rows}
 use Rattle.terms.proofs.Cells.{next-cells}
-use Rattle.terms.proofs.Widths.{wide-core}
+use Rattle.terms.proofs.Spans.{resolve-next}
+use Rattle.terms.proofs.Widths.{wide-core, total-surface, total-core}
 use Rattle.scope.specs.Scope.{declared-names}
-use Rattle.elaborate.specs.RowTerm.{Outcome}
 use Rattle.elaborate.specs.Loadable.{Loadable, ElaboratesTo, Elaborates}
 use Rattle.elaborate.specs.Declarations.{ModuleOutcome, resolved, refused, module-outcome, declaration-outcome, Declared}
 use Rattle.elaborate.specs.declared.Elaborated.{Elaborated}
 use Rattle.elaborate.proofs.TableRows.{stored-rows, stored-append, stored-words}
 use Rattle.elaborate.proofs.TreeRows.{settled}
-use Rattle.elaborate.proofs.ResolvedTrees.{next-resolved}
 use Rattle.elaborate.proofs.ModuleRows.{Held, loaded, declaration-comes, one-more-name}
 
 -- What declarations come to whose first row is k, with the names of those before them.
@@ -60,7 +58,7 @@ all-concluded s globals k (d ∷ l) core = go (find (declared-name s d) globals)
     first = map core-row (cells k f)
 
     n : next k f ≡ next k (trees d)
-    n = next-resolved s (λ i. []) globals k (trees d)
+    n = resolve-next s (λ i. []) globals k (trees d)
 
     count : k + length first ≡ next k f
     count = omega (arith, next-cells k f, length-map (cells k f) core-row)
@@ -100,25 +98,6 @@ when-refused (refused x) r core class a n h e =
 abbrev then-rest : ModuleOutcome → (List ℕ → ModuleOutcome) → ModuleOutcome
 then-rest (resolved c) f = f c
 then-rest (refused r) f = refused r
-
-length-core-rows : (s : List ℕ) (globals : List Name) (n : ℕ) (ds : List Declaration) → length (core-rows n (resolve-module s globals ds)) ≡ length (surface-rows n ds)
-length-core-rows s globals n [] = refl
-length-core-rows s globals n (d ∷ l) =
-    let f = resolve-declaration s globals d in
-    let more = globals ++ (declared-name s d ∷ []) in
-    let e : next n f ≡ next n (trees d) = next-resolved s (λ i. []) globals n (trees d) in
-    let t : length (core-rows (next n f) (resolve-module s more l)) ≡ length (surface-rows (next n (trees d)) l) =
-    ap (λ (m : ℕ). length (core-rows m (resolve-module s more l))) e ∙ length-core-rows s more (next n (trees d)) l in
-    omega (
-      arith,
-      t,
-      next-cells n f,
-      next-cells n (trees d),
-      length-map (cells n f) core-row,
-      length-map (cells n (trees d)) surface-row,
-      length-append (map core-row (cells n f)) (core-rows (next n f) (resolve-module s more l)),
-      length-append (map surface-row (cells n (trees d))) (surface-rows (next n (trees d)) l),
-    )
 
 module _ (s surface declarations : List ℕ) (rows count : ℕ) (core₀ : List ℕ) (ds : List Declaration) where
   -- After d declarations the table is `core`, and the rest comes to the same.
@@ -204,7 +183,7 @@ module _ (s surface declarations : List ℕ) (rows count : ℕ) (core₀ : List 
   elaborates-done core h e = go (first-refused s [] ds) (sym (all-concluded s [] 0 ds core₀) ∙ e)
     where
       many : 0 + length (core-rows 0 (resolve-module s [] ds)) ≡ rows
-      many = omega (arith, length-core-rows s [] 0 ds, h .all-rows)
+      many = omega (arith, total-surface 0 ds, total-core s [] 0 ds, h .all-rows)
 
       go : (o : Option RefusedName) → concluded o table ≡ resolved core → ElaboratesTo o s ds rows core₀ Elaborated.Done core
       go none q =

@@ -3,20 +3,20 @@ use Prim.Native.Nat.{ℕ, zero, suc, _+_, _*_, _≤_, _<_}
 use mathlib.Core.Path.{_≡_, refl, sym, _∙_, ap, ap₂, subst}
 use mathlib.Core.List.{List, [], _∷_, _++_, map}
 use mathlib.Core.Option.{Option, none, some}
-use mathlib.Core.Bool.{Bool, true, false, cond}
+use mathlib.Core.Bool.{cond}
 use native.Mathlib.Omega.{arith}
 use native.Mathlib.Numerals.{add-one}
 use native.Mathlib.Nat.{add-zero}
 use borrow.Author.Tests.{eq-eqb, ne-eqb}
 use lib.Dec.{eqb}
-use lib.ListN.{length, getD, take, drop, length-append, length-map}
-use Rattle.terms.specs.Tree.{Forest, nil, node, Tree, tree, maybe, next, roots, cells}
+use lib.ListN.{length, getD, take, length-append, length-map}
+use Rattle.terms.specs.Tree.{Forest, nil, Tree, tree, maybe, next, roots, cells}
 use Rattle.terms.specs.Label.{Name, part, Label, Declaration, trees, declared-name}
 use Rattle.terms.specs.Resolution.{find, resolve-declaration, first-unknown, refused-name, resolve-module}
-use Rattle.terms.specs.Rows.{pad, joined, surface-row, surface-rows, core-row, core-rows}
+use Rattle.terms.specs.Rows.{pad, surface-row, surface-rows, core-row}
 use Rattle.terms.proofs.Cells.{next-cells}
-use Rattle.terms.proofs.Tables.{Wide, length-pad}
-use Rattle.terms.proofs.Widths.{wide-surface}
+use Rattle.terms.proofs.Tables.{Wide}
+use Rattle.terms.proofs.Widths.{wide-surface, wide-records, count-records}
 use Rattle.scope.specs.Scope.{declared-names}
 use Rattle.elaborate.specs.RowTerm.{Outcome, done, unknown-at, and-then, arguments, row-term}
 use Rattle.elaborate.specs.Loadable.{Shaped, Nested, Bodied, WellRead, read-record, read-records, Loadable}
@@ -24,7 +24,7 @@ use Rattle.elaborate.specs.Declarations.{Fitting, ModuleOutcome, refused
 use Rattle.elaborate.proofs.RowWords.{place, word-of, first-word-of}
 use Rattle.elaborate.proofs.TableRows.{HasRows, has-rows, table-length, stored-rows}
 use Rattle.elaborate.proofs.TreeRows.{Holds, holds-rows, settled, comes}
-use Rattle.elaborate.proofs.ResolvedTrees.{next-resolved, next-grows}
+use Rattle.elaborate.proofs.ResolvedTrees.{next-grows, records-kept}
 
 names-snoc : (s t : List ℕ) (k d : ℕ) → declared-names s t k (suc d) ≡ declared-names s t k d ++ (part s (getD t ((k + d) * 5 + 1) 0) (getD t ((k + d) * 5 + 2) 0) ∷ [])
 unfolding declared-names
@@ -57,13 +57,11 @@ held surface declarations rows d k (x ∷ l) h g b w =
     omega-end : (k : ℕ) (f : Forest Label) (rest : List (List ℕ)) → k + length (map surface-row (cells k f) ++ rest) ≡ next k f + length rest
     omega-end k f rest = omega (arith, next-cells k f, length-append (map surface-row (cells k f)) rest, length-map (cells k f) surface-row)
 
-wide-read : (n : ℕ) (ds : List Declaration) → Wide 5 (read-records n ds)
-wide-read n [] = tt
-wide-read n (d ∷ l) = (ap suc (ap suc (ap suc (length-pad 2 (roots n (trees d))))), wide-read (next n (trees d)) l)
+wide-read : (ds : List Declaration) → Wide 5 (read-records 0 ds)
+wide-read ds = subst (Wide 5) (records-kept [] [] 0 ds) (wide-records 0 (resolve-module [] [] ds))
 
-length-read : (n : ℕ) (ds : List Declaration) → length (read-records n ds) ≡ length ds
-length-read n [] = refl
-length-read n (d ∷ l) = ap suc (length-read (next n (trees d)) l)
+length-read : (ds : List Declaration) → length (read-records 0 ds) ≡ length ds
+length-read ds = ap length (sym (records-kept [] [] 0 ds)) ∙ count-records [] [] 0 ds
 
 -- The trees behind a declaration's type.
 abbrev behind : Declaration → Forest Label
@@ -85,10 +83,10 @@ module _ {surface declarations core work : List ℕ} {rows count : ℕ} {ds : Li
   pub loaded : Held surface declarations rows 0 0 ds
   loaded =
       let n = h .all-rows in
-      let m : count ≡ length (read-records 0 ds) = h .all-records ∙ sym (length-read 0 ds) in
+      let m : count ≡ length (read-records 0 ds) = h .all-records ∙ sym (length-read ds) in
       held surface declarations rows 0 0 ds
       (has-rows 8 surface 0 (surface-rows 0 ds) (wide-surface 0 ds) (ap (λ (i : ℕ). take (i * 8) surface) (sym n) ∙ h .surface-read))
-      (has-rows 5 declarations 0 (read-records 0 ds) (wide-read 0 ds) (ap (λ (i : ℕ). take (i * 5) declarations) (sym m) ∙ h .records-read))
+      (has-rows 5 declarations 0 (read-records 0 ds) (wide-read ds) (ap (λ (i : ℕ). take (i * 5) declarations) (sym m) ∙ h .records-read))
       (omega arith) (h .well-read)
 
   -- Words are below 2 ^ 32.
@@ -96,7 +94,7 @@ module _ {surface declarations core work : List ℕ} {rows count : ℕ} {ds : Li
   loaded-fitting w = record {
     area = h .area;
     read = table-length 8 surface (surface-rows 0 ds) rows (h .all-rows) (wide-surface 0 ds) (h .surface-read);
-    listed = table-length 5 declarations (read-records 0 ds) count (h .all-records ∙ sym (length-read 0 ds)) (wide-read 0 ds) (h .records-read);
+    listed = table-length 5 declarations (read-records 0 ds) count (h .all-records ∙ sym (length-read ds)) (wide-read ds) (h .records-read);
     few = omega (arith, h .all-records, places-fit surface declarations rows 0 0 ds loaded (omega arith) (omega arith) w);
   }
 

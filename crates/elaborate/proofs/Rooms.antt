@@ -1,8 +1,8 @@
 -- The room that a form's arguments take, and that they are less to do than the form. Assumes nothing.
 use Prim.Native.Nat.{ℕ, zero, suc, _+_, _-_, _*_, _≤_, _<_}
-use mathlib.Core.Path.{_≡_, refl, sym, _∙_, ap, subst}
+use mathlib.Core.Path.{_≡_, refl, _∙_, ap, subst}
 use mathlib.Core.List.{List, [], _∷_}
-use mathlib.Core.Bool.{Bool, true, false, cond}
+use mathlib.Core.Bool.{Bool, true, false}
 use native.Mathlib.Omega.{arith}
 use native.Mathlib.Decide.{ℕ-discrete}
 use native.Mathlib.Nat.{suc-mul, mul-le-mul-right}
@@ -57,25 +57,17 @@ items-single k (x ∷ []) e = go (covers k 0)
     go false = omega arith
 items-single k (x ∷ y ∷ ids) e = absurd (omega arith)
 
-arity-pi : arity-of pi ≡ 2
+arities : (arity-of pi ≡ 2) × (arity-of sigma ≡ 2) × (arity-of lam ≡ 1)
 unfolding arity-of form-of-kind forms
-arity-pi = refl
-
-arity-sigma : arity-of sigma ≡ 2
-unfolding arity-of form-of-kind forms
-arity-sigma = refl
-
-arity-lam : arity-of lam ≡ 1
-unfolding arity-of form-of-kind forms
-arity-lam = refl
+arities = (refl, refl, refl)
 
 pub items-few : (k : ℕ) (ids : List ℕ) → length ids ≡ arity-of k → items k 0 ids ≤ 6
 items-few k ids e = go (ℕ-discrete k pi) (ℕ-discrete k sigma) (ℕ-discrete k lam)
   where
     go : Dec (k ≡ pi) → Dec (k ≡ sigma) → Dec (k ≡ lam) → items k 0 ids ≤ 6
-    go (yes p) q r = items-two k ids (e ∙ ap arity-of p ∙ arity-pi) (ap (λ (x : ℕ). covers x 0) p)
-    go (no p) (yes q) r = items-two k ids (e ∙ ap arity-of q ∙ arity-sigma) (ap (λ (x : ℕ). covers x 0) q)
-    go (no p) (no q) (yes r) = items-single k ids (e ∙ ap arity-of r ∙ arity-lam)
+    go (yes p) q r = items-two k ids (e ∙ ap arity-of p ∙ arities .0) (ap (λ (x : ℕ). covers x 0) p)
+    go (no p) (yes q) r = items-two k ids (e ∙ ap arity-of q ∙ arities .1) (ap (λ (x : ℕ). covers x 0) q)
+    go (no p) (no q) (yes r) = items-single k ids (e ∙ ap arity-of r ∙ arities .2)
     go (no p) (no q) (no r) = omega (arith, items-plain k 0 ids (λ j. covers-none k j p q r), arity-at-most-six k)
 
 room-one : (b : Bool) (a n left id : ℕ) (works : List Work) (v l : ℕ) → items-one b + length works + 7 * left ≤ 3585 → v + 5 * left ≤ 2560 → l + 1 + left ≤ 512

@@ -1,6 +1,6 @@
 -- What a row of the surface table says of its term. Assumes nothing.
 use Prim.Native.Nat.{ℕ, zero, suc, _+_, _*_, _≤_, _<_}
-use mathlib.Core.Path.{_≡_, refl, sym, _∙_, ap, ap₂}
+use mathlib.Core.Path.{_≡_, refl, sym, _∙_, ap}
 use mathlib.Core.List.{List, [], _∷_, _++_}
 use mathlib.Core.Bool.{Bool, true, false, cond}
 use native.Mathlib.Decide.{decLt}
@@ -12,9 +12,9 @@ use lib.ListN.{length, getD, take, drop, replicate, getD-replicate, List·getD-e
 use lib.Seq.{getD-take, getD-drop}
 use Rattle.terms.specs.Forms.{forms, form-of-kind, arity-of, holds-span}
 use Rattle.terms.specs.Label.{Label}
-use Rattle.terms.specs.Rows.{pad, row, span, surface-row}
+use Rattle.terms.specs.Rows.{pad, span, surface-row}
 use Rattle.rows.proofs.Arities.{value-at, no-arity, arity-at-most-six}
-use Rattle.rows.proofs.Words.{pad-words, words-from}
+use Rattle.rows.proofs.Words.{pad-words}
 use Rattle.elaborate.specs.RowTerm.{row-word, label-at, six-at, children-at}
 use Rattle.elaborate.proofs.Finishing.{take-pad}
 use Rattle.elaborate.proofs.Alike.{Alike}

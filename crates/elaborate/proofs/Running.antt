@@ -8,17 +8,19 @@ use borrow.Author.Tests.{ne-eqb}
 use lib.Dec.{ltb, eqb}
 use lib.ListN.{length, take, drop, getD, length-append}
 use lib.Seq.{take-at, drop-at, length-take-le}
-use Rattle.terms.specs.Forms.{universe, ref, forms, form-of-kind, arity-of, holds-span}
+use Rattle.terms.specs.Forms.{universe, arity-of, holds-span}
 use Rattle.terms.specs.Label.{Name, part, Label}
 use Rattle.terms.specs.Resolution.{Core, kept, covers, locals-in, is-unknown}
 use Rattle.terms.specs.Rows.{row, span, core-words}
+use Rattle.terms.proofs.Spans.{core-of-kept}
+use Rattle.terms.proofs.FormTable.{arity-universe, arity-ref}
 use Rattle.rows.specs.Places.{stored-at}
 use Rattle.rows.proofs.Arities.{arity-at-most-six}
 use Rattle.stacks.specs.declared.Work.{Work}
 use Rattle.elaborate.specs.RowTerm.{row-word, label-at, six-at, children-at, Outcome, done, unknown-at, and-then, arguments, core-at, row-term}
-use Rattle.elaborate.specs.Machine.{form-label, outer, scheduled-one, scheduled, run}
+use Rattle.elaborate.specs.Machine.{form-label, scheduled-one, scheduled, run}
 use Rattle.elaborate.proofs.Finishing.{length-six}
-use Rattle.elaborate.proofs.Visiting.{core-of-kept, row-visit, visit-known}
+use Rattle.elaborate.proofs.Visiting.{row-visit, visit-known}
 
 seq : (o : Outcome) (f g h : List ℕ → Outcome) → ((c : List ℕ) → f c ≡ and-then (g c) h) → and-then o f ≡ and-then (and-then o g) h
 unfolding and-then
@@ -29,14 +31,6 @@ seq-done : (o : Outcome) (f h : List ℕ → Outcome) (g : List ℕ → List ℕ
 unfolding and-then
 seq-done (done c) f h g e = e c
 seq-done (unknown-at a n) f h g e = refl
-
-arity-universe : arity-of universe ≡ 0
-unfolding arity-of form-of-kind forms
-arity-universe = refl
-
-pub arity-ref : arity-of ref ≡ 0
-unfolding arity-of form-of-kind forms
-arity-ref = refl
 
 -- A form's row has no span.
 form-words : (l : Label) (ids : List ℕ) → (arity-of (l .kind) ≡ 0 → ⊥) → core-words l kept ids ≡ core-words (form-label (l .kind)) kept ids

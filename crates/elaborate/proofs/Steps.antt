@@ -2,7 +2,6 @@
 use Prim.Native.Nat.{ℕ, zero, suc, _+_, _-_, _*_, _≤_, _<_}
 use mathlib.Core.Path.{_≡_, refl, sym, _∙_, ap, ap₂, subst}
 use mathlib.Core.List.{List, [], _∷_, _++_}
-use mathlib.Core.Bool.{Bool, true, false}
 use native.Mathlib.Omega.{arith}
 use borrow.Author.Tests.{lt-ltb, le-ltb}
 use lib.ListN.{length, getD, take, drop}
@@ -10,18 +9,20 @@ use Rattle.terms.specs.Forms.{ref, arity-of}
 use Rattle.terms.specs.Label.{Name}
 use Rattle.terms.specs.Resolution.{Core, kept, core-of, locals-in, is-unknown}
 use Rattle.terms.specs.Rows.{core-words}
+use Rattle.terms.proofs.Spans.{core-of-kept}
+use Rattle.terms.proofs.FormTable.{arity-ref}
 use Rattle.rows.specs.Places.{stored-at}
 use Rattle.rows.proofs.Arities.{arity-at-most-six}
 use Rattle.scope.specs.Scope.{local-names, declared-names, reference}
-use Rattle.stacks.specs.Stacks.{works-in, values-in, WorkPushed, ValuePushed, LocalPushed}
+use Rattle.stacks.specs.Stacks.{works-in, values-in, WorkPushed, LocalPushed}
 use Rattle.stacks.specs.declared.Work.{Work}
 use Rattle.stacks.proofs.Decoding.{length-works, length-values, values-below}
 use Rattle.elaborate.specs.RowTerm.{row-word, label-at, children-at, Outcome, done, unknown-at, and-then, arguments, core-at, visit, row-term}
 use Rattle.elaborate.specs.Machine.{form-label, outer, scheduled, run, Room, weight, RowDone, ReferenceDone, without-arguments, form-row, outcome, Went, Stepped}
 use Rattle.elaborate.specs.declared.State.{State}
 use Rattle.elaborate.specs.declared.Step.{Step}
-use Rattle.elaborate.proofs.Visiting.{core-of-ref, core-of-kept, row-visit, visit-out, visit-unknown, visit-known, visit-leaf, inner}
-use Rattle.elaborate.proofs.Running.{run-row, run-unknown, run-form, length-children, arity-ref}
+use Rattle.elaborate.proofs.Visiting.{row-visit, visit-out, visit-unknown, visit-known, visit-leaf, inner}
+use Rattle.elaborate.proofs.Running.{run-row, run-unknown, run-form, length-children}
 use Rattle.elaborate.proofs.Rooms.{items, items-few, length-scheduled, room-scheduled, weight-positive, form-less}
 
 -- The bounds that an Eval has room for.

@@ -1,11 +1,11 @@
 -- Rows read from a table place by place, and rows stored one behind the other. Assumes nothing.
-use Prim.Native.Nat.{ℕ, zero, suc, _+_, _-_, _*_, _/_, _≤_, _<_}
-use mathlib.Core.Path.{_≡_, refl, sym, _∙_, ap, ap₂, subst}
+use Prim.Native.Nat.{ℕ, suc, _+_, _-_, _*_, _/_, _≤_, _<_}
+use mathlib.Core.Path.{_≡_, refl, sym, _∙_, ap}
 use mathlib.Core.List.{List, [], _∷_, _++_, append-assoc, append-nil}
 use native.Mathlib.Omega.{arith}
 use native.Mathlib.Numerals.{add-one}
-use native.Mathlib.Nat.{suc-mul, add-zero, le-div-iff-mul-le}
-use lib.ListN.{length, take, drop, length-append}
+use native.Mathlib.Nat.{suc-mul, add-zero}
+use lib.ListN.{length, take, drop}
 use lib.Seq.{take-take, take-at, drop-at, take-add, drop-drop, take-all}
 use Rattle.terms.specs.Rows.{joined}
 use Rattle.terms.proofs.Tables.{Wide, length-joined}

@@ -1,14 +1,14 @@
 -- The loop of `elaborate_term`: the whole outcome is what the state and the tables come to. Assumes nothing.
-use Prim.Native.Nat.{ℕ, _+_, _*_, _≤_, _<_}
+use Prim.Native.Nat.{ℕ, _+_, _≤_}
 use mathlib.Core.Path.{_≡_, refl, sym, _∙_, ap, subst}
 use mathlib.Core.List.{List, [], _∷_}
 use native.Mathlib.Omega.{arith}
 use lib.ListN.{length}
 use Rattle.scope.specs.Scope.{local-names}
-use Rattle.stacks.specs.Stacks.{works-in, values-in, WorkArea, WorkPushed}
+use Rattle.stacks.specs.Stacks.{works-in, values-in, WorkPushed}
 use Rattle.stacks.specs.declared.Work.{Work}
 use Rattle.elaborate.specs.RowTerm.{Outcome, done, unknown-at, and-then, row-term}
-use Rattle.elaborate.specs.Machine.{run, Room, weight, Inside, outcome, Went, Stepped, Answered}
+use Rattle.elaborate.specs.Machine.{run, Room, Inside, outcome, Went, Stepped, Answered}
 use Rattle.elaborate.specs.declared.State.{State}
 use Rattle.elaborate.specs.declared.Step.{Step}
 use Rattle.elaborate.specs.declared.TermDone.{TermDone}

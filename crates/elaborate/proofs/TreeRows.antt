@@ -1,9 +1,9 @@
 -- On the rows of trees, the recursion over rows is the resolution of the trees. Assumes nothing.
-use Prim.Native.Nat.{ℕ, zero, suc, _+_, _*_, _≤_, _<_}
+use Prim.Native.Nat.{ℕ, zero, suc, _+_, _≤_, _<_}
 use mathlib.Core.Path.{_≡_, refl, sym, _∙_, ap, ap₂, subst}
-use mathlib.Core.List.{List, [], _∷_, _++_, map, map-append, append-assoc}
+use mathlib.Core.List.{List, _∷_, _++_, map, map-append, append-assoc}
 use mathlib.Core.Option.{Option, none, some}
-use mathlib.Core.Bool.{Bool, true, false, cond}
+use mathlib.Core.Bool.{Bool, true, false}
 use native.Mathlib.Omega.{arith}
 use borrow.Author.Tests.{lt-ltb}
 use lib.ListN.{length, length-map}
@@ -13,15 +13,16 @@ use Rattle.terms.specs.Label.{Name, Label}
 use Rattle.terms.specs.Resolution.{Core, core-of, locals-in, Resolved, resolve, is-unknown, first-unknown}
 use Rattle.terms.specs.Rows.{surface-row, core-words, core-row}
 use Rattle.terms.proofs.Cells.{next-cells, length-roots}
+use Rattle.terms.proofs.Spans.{resolve-next}
 use Rattle.rows.specs.Places.{stored-at}
 use Rattle.scope.specs.Scope.{declared-names}
-use Rattle.elaborate.specs.RowTerm.{row-word, label-at, children-at, Outcome, done, unknown-at, and-then, arguments, core-at, visit, row-term}
+use Rattle.elaborate.specs.RowTerm.{label-at, children-at, Outcome, done, unknown-at, and-then, arguments, core-at, visit, row-term}
 use Rattle.elaborate.specs.Loadable.{Shaped, Nested}
 use Rattle.elaborate.proofs.Alike.{Alike, same-core, same-unknown, same-locals, same-words}
 use Rattle.elaborate.proofs.RowWords.{place, row-alike, row-children}
 use Rattle.elaborate.proofs.TableRows.{HasRows, stored-rows, stored-append}
 use Rattle.elaborate.proofs.Visiting.{inner, row-visit, visit-unknown, visit-known}
-use Rattle.elaborate.proofs.ResolvedTrees.{next-resolved, roots-resolved, next-grows}
+use Rattle.elaborate.proofs.ResolvedTrees.{resolve-roots, next-grows}
 
 -- The table has the rows of these trees from row k on, all below row `rows`.
 abbrev pub Holds : List ℕ → ℕ → ℕ → Forest Label → Type 0
@@ -115,8 +116,8 @@ module _ (s surface declarations : List ℕ) (rows d : ℕ) where
       let A = resolve s (locals-in s l (locals zero)) globals a in
       let T = resolve s (λ i. locals (suc i)) globals r in
       let c = core-of s (locals zero) globals l in
-      let x : next k A ≡ next k a = next-resolved s (locals-in s l (locals zero)) globals k a in
-      let y : roots k A ≡ roots k a = roots-resolved s (locals-in s l (locals zero)) globals k a in
+      let x : next k A ≡ next k a = resolve-next s (locals-in s l (locals zero)) globals k a in
+      let y : roots k A ≡ roots k a = resolve-roots s (locals-in s l (locals zero)) globals k a in
       let first = map core-row (cells k A) in
       let n : k + length first ≡ next k A = omega (arith, next-cells k A, length-map (cells k A) core-row) in
       let cell : Cell Resolved = record { label = record { label = l; core = c }; children = roots k A } in

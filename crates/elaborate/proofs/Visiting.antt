@@ -1,28 +1,16 @@
 -- What a row's resolution comes to, case by case. Assumes nothing.
 use Prim.Native.Nat.{ℕ, zero, suc, _*_}
-use mathlib.Core.Path.{_≡_, refl, sym, _∙_, ap}
-use mathlib.Core.List.{List, [], _∷_}
-use mathlib.Core.Bool.{Bool, true, false}
-use lib.Dec.{eqb, ltb}
+use mathlib.Core.Path.{_≡_, refl, _∙_, ap}
+use mathlib.Core.List.{List, []}
+use mathlib.Core.Bool.{true, false}
+use lib.Dec.{ltb}
 use lib.ListN.{getD}
-use borrow.Author.Tests.{eq-eqb, ne-eqb}
-use Rattle.terms.specs.Forms.{ref, arity-of}
-use Rattle.terms.specs.Label.{Name, Label}
-use Rattle.terms.specs.Resolution.{Core, kept, core-of, locals-in, is-unknown}
+use Rattle.terms.specs.Forms.{arity-of}
+use Rattle.terms.specs.Label.{Name}
+use Rattle.terms.specs.Resolution.{Core, locals-in, is-unknown}
 use Rattle.terms.specs.Rows.{core-words}
 use Rattle.rows.specs.Places.{stored-at}
-use Rattle.scope.specs.Scope.{declared-names, reference}
-use Rattle.elaborate.specs.RowTerm.{row-word, label-at, six-at, children-at, Outcome, done, unknown-at, and-then, arguments, core-at, visit, row-term}
-
--- A reference is its name's start and length.
-pub core-of-ref : (s : List ℕ) (locals globals : List Name) (l : Label) → l .kind ≡ ref → core-of s locals globals l ≡ core-of s locals globals (reference (l .start) (l .length))
-unfolding core-of
-core-of-ref s locals globals l e = rw (eq-eqb (l .kind) ref e, core-of)
-
--- Any other term is kept.
-pub core-of-kept : (s : List ℕ) (locals globals : List Name) (l : Label) → (l .kind ≡ ref → ⊥) → core-of s locals globals l ≡ kept
-unfolding core-of
-core-of-kept s locals globals l e = rw (ne-eqb (l .kind) ref e, core-of)
+use Rattle.elaborate.specs.RowTerm.{row-word, label-at, children-at, Outcome, done, unknown-at, and-then, arguments, core-at, visit, row-term}
 
 module _ (s surface declarations : List ℕ) (rows d : ℕ) where
   abbrev At : ℕ → List Name → Core

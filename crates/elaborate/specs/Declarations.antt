@@ -1,8 +1,9 @@
 -- The resolution of a declaration by its record: what `declaration_step` comes to. Assumes nothing.
+-- Only contracts of private functions cite this; that it is the resolution of the declaration is proved.
 use Prim.Native.Nat.{ℕ, _+_, _*_, _≤_}
 use mathlib.Core.Path.{_≡_}
 use mathlib.Core.List.{List, []}
-use mathlib.Core.Option.{Option, none, some}
+use mathlib.Core.Option.{none, some}
 use mathlib.Core.Bool.{Bool, true, false, cond}
 use lib.Dec.{eqb}
 use lib.ListN.{length, getD}

@@ -1,8 +1,9 @@
 -- The stack of work items of `elaborate_term`: what it comes to, the room that it takes, and how long it goes on. Assumes nothing.
+-- Only contracts of private functions cite this.
 use Prim.Native.Nat.{ℕ, zero, suc, _+_, _-_, _*_, _≤_, _<_}
 use mathlib.Core.Path.{_≡_}
 use mathlib.Core.List.{List, [], _∷_, _++_}
-use mathlib.Core.Bool.{Bool, true, false, cond}
+use mathlib.Core.Bool.{Bool, true, false}
 use lib.ListN.{length, take, drop}
 use Rattle.terms.specs.Forms.{arity-of}
 use Rattle.terms.specs.Label.{Name, part, Label}
@@ -50,7 +51,8 @@ module _ (s surface declarations : List ℕ) (rows d : ℕ) where
       run works locals (take (length values - arity-of k) values ++ (id ∷ []))
       (stored-at 8 core id (core-words (form-label k) kept (drop (length values - arity-of k) values)))
 
--- There is room for what is to come, with v values and l names: at most 7 work items, 5 values and a name for each form that may still be opened.
+-- There is room for what is to come, with v values and l names: at most 7 work items, 5 values and a name for each of the 512 forms that may be
+-- opened, and 7 * 512 is 3,584, 5 * 512 is 2,560.
 unfoldable pub Room : List Work → ℕ → ℕ → Type 0
 Room [] v l = Unit {0}
 Room (Work.Eval id left ∷ works) v l = (length works + 7 * left ≤ 3584) × (v + 5 * left ≤ 2560) × (l + left ≤ 512) × Room works (v + 1) l

@@ -1,11 +1,11 @@
 -- The stacks read from a work area: how many items they have, and that only their own words count. Assumes nothing.
 use Prim.Native.Nat.{ℕ, zero, suc, _+_, _-_, _*_, _≤_, _<_}
-use mathlib.Core.Path.{_≡_, refl, sym, _∙_, ap, ap₂}
-use mathlib.Core.List.{List, [], _∷_, _++_, append-nil}
+use mathlib.Core.Path.{_≡_, refl, _∙_, ap}
+use mathlib.Core.List.{List, [], _∷_, _++_}
 use native.Mathlib.Omega.{arith}
 use native.Mathlib.Nat.{add-zero, add-suc}
-use lib.ListN.{length, getD, take, drop, length-append}
-use lib.Seq.{take-append-le, drop-append-le, take-all, drop-length}
+use lib.ListN.{length, getD, take, length-append}
+use lib.Seq.{take-append-le, take-all}
 use Rattle.terms.specs.Label.{part}
 use Rattle.scope.specs.Scope.{local-names}
 use Rattle.stacks.specs.Stacks.{work-of, works-in, values-in}

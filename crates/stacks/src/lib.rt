@@ -1,7 +1,7 @@
 // The stacks of `elaborate_term` in the lent work area: names in scope, values and work items, each with a part of the 16,384 words.
 // The port of `Work`, `push_work`, `push_value` and `pop_values` in surface/elaborate.rs.
 ghost use mathlib.Core.Path.{_≡_};
-ghost use mathlib.Core.List.{List, _∷_};
+ghost use mathlib.Core.List.{_∷_};
 ghost use Prim.Native.Nat.{_+_, _<_, _≤_};
 ghost use lib.ListN.{drop};
 ghost use Rattle.terms.specs.Rows.{pad};

@@ -46,7 +46,7 @@ sub-t32 c =
     let a = o .args in
     let e = top-item (a .work .now) (a .st .works) _ _ (o .pre .1 .1 .0) (c .before .before .pop-work .ensures (omega arith)) (c .enum-told .given .1) in
     let r = top-room _ _ (a .st) e (o .pre .1 .0) in
-    pop-bound _ _ _ r
+    omega (arith, pop-bound _ _ _ r)
 
 enum-known-item-3 : tie.Need-enum-known-item-3
 enum-known-item-3 c = search needs
