@@ -4,3 +4,4 @@ mod Cleared
 mod Resolving
 mod Stored
 mod Left
+pub mod Demand
