@@ -15,10 +15,10 @@ use Rattle.loader.specs.Leaving.{lengths-of, leaving, Stores, Counts}
 use Rattle.loader.proofs.Cleared.{cleared-behind, cleared-whole}
 
 -- A table of the length n whose first k words are ws.
-front : (t : List ℕ) (n k : ℕ) (ws : List ℕ) → length t ≡ n → k ≤ n → take k t ≡ ws → cleared t k ≡ pad n ws
+pub front : (t : List ℕ) (n k : ℕ) (ws : List ℕ) → length t ≡ n → k ≤ n → take k t ≡ ws → cleared t k ≡ pad n ws
 front t n k ws e h f = cleared-behind t k ws (omega arith) f ∙ ap (λ (m : ℕ). pad m ws) e
 
-whole : (t : List ℕ) (n : ℕ) → length t ≡ n → cleared t 0 ≡ pad n []
+pub whole : (t : List ℕ) (n : ℕ) → length t ≡ n → cleared t 0 ≡ pad n []
 whole t n e = cleared-whole t ∙ ap (λ (m : ℕ). pad m []) e
 
 module _ (s surface core declarations work : List ℕ) (r : Answer) (surface₁ core₁ declarations₁ work₁ : List ℕ)

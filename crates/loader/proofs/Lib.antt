@@ -1,7 +1,9 @@
 mod Parsing
 mod WellRead
 mod Cleared
+mod Fronts
 mod Resolving
 mod Stored
 mod Left
+mod ParsedTables
 pub mod Demand

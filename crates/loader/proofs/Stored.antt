@@ -1,40 +1,26 @@
 -- From what parsing and resolution store to what loading stores. Assumes nothing.
 use mathlib.Core.Path.{_≡_, refl, sym, ap, subst, _∙_}
-use mathlib.Core.List.{List, [], _∷_, _++_}
+use mathlib.Core.List.{List, []}
 use mathlib.Core.Option.{Option, none, some}
-use Prim.Native.Nat.{ℕ, _+_, _*_, _/_, _≤_, _<_}
+use Prim.Native.Nat.{ℕ, _*_, _/_, _≤_, _<_}
 use native.Mathlib.Omega.{arith}
 use native.Mathlib.Decide.{decLe}
-use lib.ListN.{length, take, drop}
-use lib.Seq.{take-at}
+use lib.ListN.{length, take}
 use Rattle.token.specs.declared.Refusal.{Refusal}
-use Rattle.terms.specs.Tree.{next}
-use Rattle.terms.specs.Label.{Declaration, trees}
-use Rattle.terms.specs.Resolution.{RefusedName, first-refused, resolve-module}
-use Rattle.terms.specs.Rows.{joined, surface-rows, core-rows, declaration-records}
-use Rattle.terms.proofs.Tables.{length-joined}
-use Rattle.terms.proofs.Widths.{total-surface, wide-surface, wide-records, count-records}
+use Rattle.terms.specs.Label.{Declaration}
+use Rattle.terms.specs.Resolution.{RefusedName, first-refused}
+use Rattle.terms.specs.Rows.{joined, surface-rows}
 use Rattle.surface.specs.declared.Answer.{Answer}
 use Rattle.surface.specs.Reader.{Position, start, Result, done, refused, nowhere}
 use Rattle.surface.specs.Loading.{Lengths, parsing, loading}
 use Rattle.surface.proofs.Acceptance.{IsParsed, is-parsed}
-use Rattle.tables.specs.Tables.{with-words}
 use Rattle.reader.specs.declared.ModuleRead.{ModuleRead}
-use Rattle.reader.specs.ModuleWords.{record-words, records}
 use Rattle.reader.specs.Reads.{ReadsModule}
-use Rattle.elaborate.specs.Loadable.{read-records, Loadable}
-use Rattle.elaborate.proofs.ResolvedTrees.{records-kept}
+use Rattle.elaborate.specs.Loadable.{Loadable}
 use Rattle.loader.specs.Leaving.{lengths-of, Stores, ResolvesTo, Resolves, Counts}
 use Rattle.loader.proofs.Parsing.{load-refused, load-short, load-names}
 use Rattle.loader.proofs.WellRead.{well-read}
-
--- Words that stand at the beginning of a table.
-take-front : (t ws : List ℕ) (n : ℕ) → length ws ≡ n → take n (with-words t 0 ws) ≡ ws
-take-front t ws n e = take-at ws (drop (0 + length ws) t) n e
-
-same-records : (n : ℕ) (ds : List Declaration) → records n ds ≡ read-records n ds
-same-records n [] = refl
-same-records n (d ∷ l) = ap (λ (r : List (List ℕ)). record-words n d ∷ r) (same-records (next n (trees d)) l)
+use Rattle.loader.proofs.Fronts.{same-records, kept-records, Fronts, fronts}
 
 module _ (s surface core declarations work : List ℕ) where
   abbrev z : Lengths
@@ -75,39 +61,26 @@ module _ (s surface core declarations work : List ℕ) where
         w : Read (done ds q)
         w = read-so (done ds q) f
 
+        g : Fronts surface declarations surface₁ declarations₁ ds q
+        g = fronts s surface declarations work surface₁ declarations₁ r ds q (any-core ∙ f) w
+
         rows-are : rows ≡ q .rows
         rows-are = cc (w .0)
 
         count-is : count ≡ length ds
         count-is = cc (w .0)
 
-        all-rows : rows ≡ length (surface-rows 0 ds)
-        all-rows = omega (arith, rows-are, p .rows, total-surface 0 ds)
-
         surface-front : take (rows * 8) surface₁ ≡ joined (surface-rows 0 ds)
-        surface-front =
-            ap (take (rows * 8)) (w .1)
-            ∙ take-front surface (joined (surface-rows 0 ds)) (rows * 8) (length-joined 8 (surface-rows 0 ds) (wide-surface 0 ds) ∙ ap (λ (n : ℕ). n * 8) (sym all-rows))
-
-        kept-records : declaration-records 0 (resolve-module s [] ds) ≡ records 0 ds
-        kept-records = records-kept s [] 0 ds ∙ sym (same-records 0 ds)
-
-        declarations-front : take (count * 5) declarations₁ ≡ joined (records 0 ds)
-        declarations-front =
-            ap (take (count * 5)) (w .2)
-            ∙ take-front declarations (joined (records 0 ds)) (count * 5)
-            (ap (λ (l : List (List ℕ)). length (joined l)) (sym kept-records)
-            ∙ length-joined 5 (declaration-records 0 (resolve-module s [] ds)) (wide-records 0 (resolve-module s [] ds))
-            ∙ ap (λ (n : ℕ). n * 5) (count-records s [] 0 ds ∙ sym count-is))
+        surface-front = ap (λ (n : ℕ). take (n * 8) surface₁) rows-are ∙ g .surface-front
 
         loadable : rows * 8 ≤ length core → Loadable surface₁ declarations₁ core work₁ rows count ds
         loadable room = record {
           area = omega (arith, p .work, kept);
           room = room;
-          all-rows = all-rows;
+          all-rows = rows-are ∙ g .all-rows;
           surface-read = surface-front;
           all-records = count-is;
-          records-read = declarations-front ∙ ap joined (same-records 0 ds);
+          records-read = ap (λ (n : ℕ). take (n * 5) declarations₁) count-is ∙ g .list-front ∙ ap joined (same-records 0 ds);
           well-read = well-read s ds (p .readable .derives) (p .readable .shallow);
         }
 
@@ -128,17 +101,17 @@ module _ (s surface core declarations work : List ℕ) where
           core-full h = omega (arith, rows-are)
 
           as-names : rows ≤ length core / 8 → (o : Option RefusedName) → first-refused s [] ds ≡ o → ResolvesTo o s ds rows a core₁ → Stored
-          as-names room (some x) g b = as-refused (nowhere (x .class)) (load-names s z ds q f (core-room room) (some x) g) b
-          as-names room none g b =
+          as-names room (some x) m b = as-refused (nowhere (x .class)) (load-names s z ds q f (core-room room) (some x) m) b
+          as-names room none m b =
               let c : a ≡ Answer.Loaded (q .rows) (length ds) = b .0 ∙ ap (λ (n : ℕ). Answer.Loaded n (length ds)) rows-are in (
-                subst (λ (o : Result (List Declaration)). Stores s o a surface₁ core₁ declarations₁) (sym (load-names s z ds q f (core-room room) none g)) (
+                subst (λ (o : Result (List Declaration)). Stores s o a surface₁ core₁ declarations₁) (sym (load-names s z ds q f (core-room room) none m)) (
                   c,
-                  ap (λ (n : ℕ). take (n * 8) surface₁) (sym rows-are) ∙ surface-front,
+                  g .surface-front,
                   ap (λ (n : ℕ). take (n * 8) core₁) (sym rows-are) ∙ b .1,
-                  ap (λ (n : ℕ). take (n * 5) declarations₁) (sym count-is) ∙ declarations-front ∙ ap joined (sym kept-records),
+                  g .list-front ∙ ap joined (sym (kept-records s ds)),
                 ),
                 subst (λ (y : Answer). Counts y surface core declarations) (sym c)
-                    (record { rows-read = omega (arith, p .rows, p .surface); rows-resolved = omega (arith, rows-are); records = p .declarations }),
+                    (record { rows-read = g .rows; rows-resolved = omega (arith, rows-are); records = g .count }),
               )
 
           stored : Stored

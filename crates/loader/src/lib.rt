@@ -17,6 +17,7 @@ ghost use mathlib.Core.List.{List, []};
 ghost use Rattle.terms.specs.Label.{Declaration};
 ghost use Rattle.surface.specs.Loading.{loading};
 ghost use Rattle.elaborate.specs.Loadable.{Loadable};
+ghost use Rattle.loader.specs.Parsed.{rows-read, declarations-read, parsing-leaves, parse};
 ghost use Rattle.loader.specs.Leaving.{lengths-of, leaving, Stores, Resolves, Counts};
 
 fn refused(class: u8) -> Refusal
@@ -157,4 +158,52 @@ pub fn load(
     tables::clear_from(declarations, count * 5);
     tables::clear_from(work, 0);
     answer
+}
+
+fn rows_read(read: ModuleRead) -> usize
+    ensures { λ r. ⌜ r ≡ rows-read read ⌝ }
+{
+    match read {
+        ModuleRead::Done {
+            rows,
+            declarations: _,
+        } => rows,
+        ModuleRead::Refused(_) => 0,
+    }
+}
+
+fn declarations_read(read: ModuleRead) -> usize
+    ensures { λ r. ⌜ r ≡ declarations-read read ⌝ }
+{
+    match read {
+        ModuleRead::Done {
+            rows: _,
+            declarations,
+        } => declarations,
+        ModuleRead::Refused(_) => 0,
+    }
+}
+
+fn clear(t: &mut [u32])
+    ensures { λ r. ⌜ now (t .exit) ≡ cleared (now (t .entry)) 0 ⌝ }
+{
+    tables::clear_from(t, 0)
+}
+
+// Reads a source into the lent tables, with no name looked at.
+pub fn parse_surface(
+    s: &[u8],
+    surface: &mut [u32],
+    declarations: &mut [u32],
+    work: &mut [u32],
+) -> ModuleRead
+    ensures { λ r. ⌜ parsing-leaves r (now (surface .exit)) (now (declarations .exit)) (now (work .exit)) ≡ parse (now (s .entry)) (lengths-of (now (surface .entry)) [] (now (declarations .entry)) (now (work .entry))) ⌝ }
+{
+    let read = parse(s, surface, declarations, work);
+    let rows = rows_read(read);
+    let count = declarations_read(read);
+    tables::clear_from(surface, rows * 8);
+    tables::clear_from(declarations, count * 5);
+    clear(work);
+    read
 }

@@ -1,5 +1,5 @@
 -- A declaration by its parts: what the reading order gives, and the words that are stored. Assumes nothing.
-use mathlib.Core.Path.{_≡_, refl, sym, _∙_, ap, ap₂, subst}
+use mathlib.Core.Path.{_≡_, refl, sym, _∙_, ap, ap₂}
 use mathlib.Core.List.{List, [], _∷_, _++_}
 use mathlib.Core.Option.{Option, none, some}
 use Prim.Native.Nat.{ℕ, suc, _+_, _-_, _*_, _/_, _≤_, _<_}
@@ -13,16 +13,16 @@ use Rattle.terms.specs.Forms.{edition-0-1}
 use Rattle.terms.specs.Label.{Label, Declaration, trees}
 use Rattle.terms.specs.Tree.{nil, Tree, tree, next, roots}
 use Rattle.terms.specs.Rows.{pad}
-use Rattle.surface.specs.Reader.{Position, Result, done, refused, at-token}
-use Rattle.surface.specs.Reading.{closing, atom, name, declared, declaration, declaration-kind}
-use Rattle.surface.specs.Text.{text}
+use Rattle.surface.specs.Reader.{Position, Result, done, refused}
+use Rattle.surface.specs.Reading.{closing, name, declared}
 use Rattle.tables.specs.Tables.{with-words}
 use Rattle.rows.specs.Places.{stored-at}
 use Rattle.rows.proofs.Storing.{stored-at-place}
 use Rattle.expects.specs.Expects.{position-at, Reads}
 use Rattle.reader.specs.declared.DeclarationRead.{DeclarationRead}
-use Rattle.reader.specs.ModuleWords.{whole-term, one-body, named-declaration, one-declaration, forest-words, body-trees, body-row, record-words}
-use Rattle.reader.specs.Reads.{Finishes, Declares}
+use Rattle.reader.specs.ModuleWords.{whole-term, one-body, named-declaration, forest-words, body-trees, body-row, record-words}
+use Rattle.reader.specs.Parts.{Finishes}
+use Rattle.reader.specs.Reads.{Declares}
 use Rattle.reader.proofs.Ahead.{Onward, term-onward}
 use Rattle.reader.proofs.Words.{length-forest, forest-split, with-more-words}
 use Rattle.reader.proofs.Parts.{TypeRead, BodyRead}

@@ -5,11 +5,10 @@ use Prim.Native.Nat.{ℕ, _+_, _/_, _≤_, _<_}
 use native.Mathlib.Omega.{arith}
 use lib.ListN.{length}
 use Rattle.token.specs.declared.Refusal.{Refusal}
-use Rattle.surface.specs.Reader.{Result, refused}
-use Rattle.terms.specs.Label.{Declaration}
 use Rattle.reader.specs.declared.Step.{Step}
 use Rattle.reader.specs.declared.ModuleRead.{ModuleRead}
-use Rattle.reader.specs.Reads.{Inside, ReadsFrom, left, Went, Stepped, HasRoom}
+use Rattle.reader.specs.Parts.{ReadsFrom, left, Stepped, HasRoom}
+use Rattle.reader.specs.Reads.{Inside}
 
 module _ (s table₀ list₀ work₀ : List ℕ) (from : ℕ) where
   -- The answer for all declarations.

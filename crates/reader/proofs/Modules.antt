@@ -14,7 +14,8 @@ use Rattle.expects.specs.Expects.{position-at, Heads}
 use Rattle.expects.proofs.Heads.{head-got as ahead}
 use Rattle.reader.specs.declared.ModuleRead.{ModuleRead}
 use Rattle.reader.specs.ModuleWords.{all-declarations}
-use Rattle.reader.specs.Reads.{Inside, ReadsFrom, ReadsModule, left}
+use Rattle.reader.specs.Parts.{ReadsFrom, left}
+use Rattle.reader.specs.Reads.{Inside, ReadsModule}
 
 -- Declarations behind no row and no declaration are all.
 from-start : (x : Result (List Declaration)) (table list : List ℕ) (r : ModuleRead) (table₁ list₁ : List ℕ) → ReadsFrom 0 0 x table list r table₁ list₁

@@ -16,9 +16,10 @@ use Rattle.parser.specs.Machine.{ReadsTerm}
 use Rattle.parser.specs.declared.TermRead.{TermRead}
 use Rattle.reader.specs.declared.DeclarationRead.{DeclarationRead}
 use Rattle.reader.specs.ModuleWords.{whole-term, one-body}
-use Rattle.reader.specs.Reads.{Inside, BodyReads, Finishes, Declares}
+use Rattle.reader.specs.Parts.{BodyReads, ReadsBody, Finishes}
+use Rattle.reader.specs.Reads.{Inside, Declares}
 use Rattle.reader.proofs.Ahead.{term-onward}
-use Rattle.reader.proofs.Parts.{present, term-inside, term-read, TypeRead, BodyRead, type-done, type-refused, body-done, body-refused}
+use Rattle.reader.proofs.Parts.{present, term-inside, term-read, TypeRead, type-done, type-refused, body-done, body-refused}
 use Rattle.reader.proofs.Declarations as by
 
 pub name-order : (s : List ℕ) (at : ℕ) (x : Lexed) → Reads s (name edition-0-1 s) at x → (m : Token) → x ≡ Got m → m .start ≤ m .end
@@ -58,7 +59,7 @@ module _ (s table list work : List ℕ) (at n k : ℕ) (t : Token) (j kind : ℕ
 
       -- The body.
       module _ (z : TermRead) (table₂ : List ℕ)
-          (f : Inside s table₁ work₁ at₁ n₁ → (i : ℕ) → kind ≡ suc i → BodyReads (one-body s (length table₁ / 8) i (position-at at₁ n₁)) n₁ table₁ z table₂) where
+          (f : ReadsBody s table₁ work₁ kind at₁ n₁ z table₂) where
         bodied : BodyReads (one-body s (length table / 8) j (position-at at₁ n₁)) n₁ table₁ z table₂
         bodied = subst (λ (l : ℕ). BodyReads (one-body s (l / 8) j (position-at at₁ n₁)) n₁ table₁ z table₂) u (f body-at j is)
 
@@ -74,7 +75,8 @@ module _ (s table list work : List ℕ) (at n k : ℕ) (t : Token) (j kind : ℕ
             → (r : DeclarationRead) (list₁ : List ℕ) → Finishes (closing s (position-at at₂ n₂)) k list words r list₁
             → Declares (by.answer s (length table / 8) t j at n) n k table list r table₂ list₁
         ends body n₂ at₂ q words w r list₁ c =
-            let b = body-done n₁ table₁ z table₂ body n₂ at₂ q _ bodied in
-            let d : words ≡ suc j ∷ m .start ∷ (m .end - m .start) ∷ row ∷ body ∷ [] = w (omega (arith, named .high, inside .source)) ∙ ap (λ (i : ℕ). i ∷ m .start ∷ (m .end - m .start) ∷ row ∷ body ∷ []) is in
-            by.ended s table list at n k t j x h m e row n₁ at₁ table₁ type body n₂ at₂ table₂ b (inside .stored) room (closing s (position-at at₂ n₂)) refl r list₁
+            let d : words ≡ suc j ∷ m .start ∷ (m .end - m .start) ∷ row ∷ body ∷ [] =
+            w (omega (arith, named .high, inside .source)) ∙ ap (λ (i : ℕ). i ∷ m .start ∷ (m .end - m .start) ∷ row ∷ body ∷ []) is in
+            by.ended s table list at n k t j x h m e row n₁ at₁ table₁ type body n₂ at₂ table₂ (body-done n₁ table₁ z table₂ body n₂ at₂ q _ bodied)
+            (inside .stored) room (closing s (position-at at₂ n₂)) refl r list₁
             (subst (λ (l : List ℕ). Finishes (closing s (position-at at₂ n₂)) k list l r list₁) d c)

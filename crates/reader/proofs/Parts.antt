@@ -1,14 +1,14 @@
 -- What the reader of terms gives, as trees: a type, and a body that may be absent. Assumes nothing.
 use mathlib.Core.Path.{_≡_, refl, sym, _∙_, ap, ap₂, subst}
-use mathlib.Core.List.{List, [], _++_}
-use mathlib.Core.Option.{Option, none, some}
+use mathlib.Core.List.{List, _++_}
+use mathlib.Core.Option.{Option, some}
 use Prim.Native.Nat.{ℕ, zero, suc, _+_, _*_, _/_}
 use native.Mathlib.Omega.{arith}
 use lib.ListN.{length, take, drop}
 use Rattle.token.specs.declared.Refusal.{Refusal}
 use Rattle.terms.specs.Label.{Label}
 use Rattle.terms.specs.Tree.{nil, Tree, tree, next}
-use Rattle.surface.specs.Reader.{Position, Result, done, refused, after, pure}
+use Rattle.surface.specs.Reader.{Result, done, refused, after, pure}
 use Rattle.surface.specs.Reading.{body}
 use Rattle.tables.specs.Tables.{with-words}
 use Rattle.expects.specs.Expects.{position-at}
@@ -18,7 +18,8 @@ use Rattle.parser.specs.Machine.{Inside as TermInside, Reads, first-state, whol
 use Rattle.parser.specs.declared.TermRead.{TermRead}
 use Rattle.parser.proofs.Readers.{whole-rows}
 use Rattle.reader.specs.ModuleWords.{whole-term, one-body, forest-words, body-trees, body-row}
-use Rattle.reader.specs.Reads.{Inside, BodyReads}
+use Rattle.reader.specs.Parts.{BodyReads}
+use Rattle.reader.specs.Reads.{Inside}
 use Rattle.reader.proofs.Ahead.{term-onward}
 use Rattle.reader.proofs.Words.{length-forest, with-no-words}
 

@@ -23,8 +23,9 @@ use Rattle.expects.proofs.Ahead.{TokenAhead, token-got}
 use Rattle.reader.specs.declared.DeclarationRead.{DeclarationRead}
 use Rattle.reader.specs.declared.ModuleRead.{ModuleRead}
 use Rattle.reader.specs.ModuleWords.{whole-term, one-declaration, all-declarations, row-words, record-words, records}
-use Rattle.reader.specs.Reads.{Inside, Declares, ReadsFrom, left, Went}
-use Rattle.reader.proofs.Ahead.{Onward, declaration-onward}
+use Rattle.reader.specs.Parts.{ReadsFrom, left, Went}
+use Rattle.reader.specs.Reads.{Inside, Declares}
+use Rattle.reader.proofs.Ahead.{declaration-onward}
 use Rattle.reader.proofs.Words.{joined-append, length-forest, with-no-words, with-more-words}
 
 module _ (s : List ℕ) (limit : ℕ) where
@@ -110,7 +111,7 @@ module _ (s table list : List ℕ) (at n k : ℕ) (work work₁ : List ℕ) (ins
   unfolding token
   opened = token-got s _ t _ (ap (lexed s n) (sym h ∙ e)) (λ i. let z : _≡_ {A = ℕ} 0 1 = cc in omega arith)
 
-  pub behind-parenthesis : Inside s table work (t .end) n
+  behind-parenthesis : Inside s table work (t .end) n
   behind-parenthesis = record { source = inside .source; area = inside .area; within = opened .high; few = omega (arith, opened, inside .few); stored = inside .stored }
 
   abbrev one : Result Declaration
@@ -123,16 +124,16 @@ module _ (s table list : List ℕ) (at n k : ℕ) (work work₁ : List ℕ) (ins
   opens-to = next-opens s (length table / 8) at n (length list / 5 - k) x h t e opens others (omega arith)
 
   module _ (y : DeclarationRead) (table₁ list₁ : List ℕ) (u : length table₁ ≡ length table) (v : length list₁ ≡ length list) (w : length work₁ ≡ length work)
-      (g : Declares one n k table list y table₁ list₁) where
+      (g : Inside s table work (t .end) n → k < length list / 5 → Declares one n k table list y table₁ list₁) where
     pub declaration-stops : (r : Refusal) → y ≡ DeclarationRead.Refused r → left s table list at n k ≡ refused r
-    declaration-stops r i = by one refl g
+    declaration-stops r i = by one refl (g behind-parenthesis room)
       where
         by : (z : Result Declaration) → one ≡ z → Declares z n k table list y table₁ list₁ → left s table list at n k ≡ refused r
         by (done d q) j f = absurd (let z : _≡_ {A = ℕ} 0 1 = cc (f .0) in omega arith)
         by (refused c) j f = opens-to ∙ rw j (ap refused (cc))
 
     pub went : (n₁ at₁ : ℕ) → y ≡ DeclarationRead.Done n₁ at₁ → Went s table list at n k at₁ n₁ table₁ list₁ work₁
-    went n₁ at₁ i = by one refl g
+    went n₁ at₁ i = by one refl (g behind-parenthesis room)
       where
         by : (z : Result Declaration) → one ≡ z → Declares z n k table list y table₁ list₁ → Went s table list at n k at₁ n₁ table₁ list₁ work₁
         by (refused c) j f = absurd (let z : _≡_ {A = ℕ} 0 1 = cc in omega arith)

@@ -1,9 +1,8 @@
 -- A declaration behind its parenthesis, by its word. Assumes nothing.
 use mathlib.Core.Path.{_≡_, sym, _∙_, ap, subst}
 use mathlib.Core.List.{List}
-use Prim.Native.Nat.{ℕ, zero, suc, _-_, _/_, _≤_, _<_}
+use Prim.Native.Nat.{ℕ, suc, _-_}
 use native.Mathlib.Omega.{arith}
-use lib.ListN.{length}
 use Rattle.token.specs.declared.Token.{Token}
 use Rattle.token.specs.declared.Refusal.{Refusal}
 use Rattle.token.specs.declared.Lexed.{Lexed}
@@ -13,10 +12,17 @@ use Rattle.surface.specs.Reading.{atom, declared, declaration, declaration-kind
 use Rattle.surface.specs.Text.{text}
 use Rattle.terms.specs.Label.{Declaration}
 use Rattle.expects.specs.Expects.{position-at, Reads}
-use Rattle.expects.proofs.Ahead.{TokenAhead, atom-ahead, read-ahead}
+use Rattle.expects.proofs.Ahead.{atom-ahead, read-ahead}
 use Rattle.reader.specs.declared.DeclarationRead.{DeclarationRead}
 use Rattle.reader.specs.ModuleWords.{named-declaration, one-declaration}
 use Rattle.reader.specs.Reads.{Inside, Declares}
+
+-- Reading may go on behind the word.
+pub behind-word : (s table work : List ℕ) (at n : ℕ) (x : Lexed) → Reads s (atom s) at x → (t : Token) → x ≡ Got t → Inside s table work at n
+    → Inside s table work (t .end) n
+behind-word s table work at n x h t e i =
+    let a = read-ahead s (atom s) (atom-ahead s) at x h t e n in
+    record { source = i .source; area = i .area; within = a .high; few = omega arith; stored = i .stored }
 
 module _ (s : List ℕ) (limit at n : ℕ) (x : Lexed) (h : Reads s (atom s) at x) where
   pub word-refused : (r : Refusal) → x ≡ Refused r → one-declaration s limit (position-at at n) ≡ refused r
@@ -31,13 +37,6 @@ module _ (s : List ℕ) (limit at n : ℕ) (x : Lexed) (h : Reads s (atom s) at 
     pub other-word : kind ≡ 0 → (r : Refusal) → r ≡ at-token 1 t → one-declaration s limit (position-at at n) ≡ refused r
     unfolding declared
     other-word z r i = by-kind ∙ ap (λ (j : ℕ). named-declaration s limit t j (position-at (t .end) n)) z ∙ ap refused (sym i)
-
-    word-ahead : TokenAhead s (position-at at n) t (position-at (t .end) n)
-    word-ahead = read-ahead s (atom s) (atom-ahead s) at x h t e n
-
-    pub behind-word : (table work : List ℕ) → Inside s table work at n → Inside s table work (t .end) n
-    behind-word table work i =
-        record { source = i .source; area = i .area; within = word-ahead .high; few = omega (arith, word-ahead, i .few); stored = i .stored }
 
     -- What stands behind a declaration's word.
     pub word-got : (kind ≡ 0 → ⊥) → (k : ℕ) (table list : List ℕ) (r : DeclarationRead) (table₁ list₁ : List ℕ)

@@ -1,2 +1,3 @@
 pub mod ModuleWords
 pub mod Reads
+pub mod Parts

@@ -2,14 +2,14 @@
 // The port of `parse_module` and `parse_declaration_after_lparen` in surface/parser.rs.
 ghost use mathlib.Core.Path.{_≡_};
 ghost use mathlib.Core.List.{[], _∷_};
-ghost use Prim.Native.Nat.{ℕ, suc, _-_, _/_, _≤_, _<_};
+ghost use Prim.Native.Nat.{_-_, _/_, _≤_, _<_};
 ghost use lib.ListN.{length};
-ghost use Rattle.token.specs.declared.Token.{Token};
 ghost use Rattle.surface.specs.Reader.{start, nowhere, at-offset};
 ghost use Rattle.surface.specs.Reading.{closing, read-module};
 ghost use Rattle.expects.specs.Expects.{position-at};
-ghost use Rattle.reader.specs.ModuleWords.{one-body, named-declaration, one-declaration};
-ghost use Rattle.reader.specs.Reads.{Inside, BodyReads, Finishes, Declares, left, Stepped, HasRoom, ReadsFrom, ReadsModule};
+ghost use Rattle.reader.specs.ModuleWords.{one-declaration};
+ghost use Rattle.reader.specs.Parts.{ReadsBody, Finishes, ReadsNamed, Steps, HasRoom, ReadsDeclarations};
+ghost use Rattle.reader.specs.Reads.{Inside, Declares, ReadsModule};
 use expects::HeadRead;
 use parser::TermRead;
 use token::Lexed;
@@ -25,7 +25,7 @@ pub enum DeclarationRead {
 }
 
 // What stands next in a module: a declaration, with the same numbers; the end; or the refusal.
-pub enum Step {
+enum Step {
     Declared { rows: usize, next: usize },
     End,
     Refused(Refusal),
@@ -82,7 +82,7 @@ fn read_body(
     at: usize,
     rows: usize,
 ) -> TermRead
-    ensures { λ r. ⌜ (Inside (now (s .entry)) (now (table .entry)) (now (work .entry)) at rows → (j : ℕ) → kind ≡ suc j → BodyReads (one-body (now (s .entry)) (length (now (table .entry)) / 8) j (position-at at rows)) rows (now (table .entry)) r (now (table .exit))) ⌝ }
+    ensures { λ r. ⌜ ReadsBody (now (s .entry)) (now (table .entry)) (now (work .entry)) kind at rows r (now (table .exit)) ⌝ }
 {
     if kind == 1 {
         return TermRead::Done {
@@ -129,7 +129,7 @@ fn read_named(
     rows: usize,
     k: usize,
 ) -> DeclarationRead
-    ensures { λ r. ⌜ (Inside (now (s .entry)) (now (table .entry)) (now (work .entry)) at rows → k < length (now (list .entry)) / 5 → (t : Token) (j : ℕ) → kind ≡ suc j → Declares (named-declaration (now (s .entry)) (length (now (table .entry)) / 8) t (suc j) (position-at at rows)) rows k (now (table .entry)) (now (list .entry)) r (now (table .exit)) (now (list .exit))) ⌝ }
+    ensures { λ r. ⌜ ReadsNamed (now (s .entry)) (now (table .entry)) (now (list .entry)) (now (work .entry)) kind at rows k r (now (table .exit)) (now (list .exit)) ⌝ }
 {
     let l = expects::parse_identifier(s, at);
     match l {
@@ -138,21 +138,13 @@ fn read_named(
             let ty = parser::read_term(s, table, work, name.end, rows);
             match ty {
                 TermRead::Refused(r) => DeclarationRead::Refused(r),
-                TermRead::Done {
-                    row,
-                    rows: typed,
-                    next,
-                } => {
-                    let body = read_body(s, table, work, kind, next, typed);
+                TermRead::Done { row, rows, next } => {
+                    let body = read_body(s, table, work, kind, next, rows);
                     match body {
                         TermRead::Refused(r) => DeclarationRead::Refused(r),
-                        TermRead::Done {
-                            row: body_row,
-                            rows: all,
-                            next: end,
-                        } => {
-                            let record = declaration_record(kind, name, row, body_row);
-                            finish_declaration(s, list, end, all, k, record)
+                        TermRead::Done { row: b, rows, next } => {
+                            let record = declaration_record(kind, name, row, b);
+                            finish_declaration(s, list, next, rows, k, record)
                         }
                     }
                 }
@@ -161,7 +153,7 @@ fn read_named(
     }
 }
 
-// The declaration behind an opening parenthesis, behind n rows and k declarations: its rows and its record are stored.
+// The declaration behind an opening parenthesis: its rows are stored behind the others, and its record at place k.
 pub fn read_declaration(
     s: &[u8],
     table: &mut [u32],
@@ -198,7 +190,7 @@ fn next_declaration(
     rows: usize,
     k: usize,
 ) -> Step
-    ensures { λ r. ⌜ (Inside (now (s .entry)) (now (table .entry)) (now (work .entry)) at rows → k ≤ length (now (list .entry)) / 5 → Stepped (now (s .entry)) (now (table .entry)) (now (list .entry)) at rows k r (now (table .exit)) (now (list .exit)) (now (work .exit))) ⌝ }
+    ensures { λ r. ⌜ Steps (now (s .entry)) (now (table .entry)) (now (list .entry)) (now (work .entry)) at rows k r (now (table .exit)) (now (list .exit)) (now (work .exit)) ⌝ }
     ensures { λ r. ⌜ HasRoom (now (list .entry)) k r ⌝ }
 {
     let l = token::next_token(s, at);
@@ -235,7 +227,7 @@ fn read_declarations(
     work: &mut [u32],
     from: usize,
 ) -> ModuleRead
-    ensures { λ r. ⌜ (Inside (now (s .entry)) (now (table .entry)) (now (work .entry)) from 0 → ReadsFrom 0 0 (left (now (s .entry)) (now (table .entry)) (now (list .entry)) from 0 0) (now (table .entry)) (now (list .entry)) r (now (table .exit)) (now (list .exit))) ⌝ }
+    ensures { λ r. ⌜ ReadsDeclarations (now (s .entry)) (now (table .entry)) (now (list .entry)) (now (work .entry)) from r (now (table .exit)) (now (list .exit)) ⌝ }
 {
     let mut at = from;
     let mut rows = 0;

@@ -4,42 +4,29 @@ use Prim.Native.Nat.{_-_, _/_}
 use native.Mathlib.Omega.{arith}
 use types.Run.{miss}
 use lib.ListN.{length}
-use Rattle.reader.proofs.Steps.{next-refused, next-full, next-other, ends-here, behind-parenthesis, declaration-stops, went}
+use Rattle.reader.proofs.Steps.{next-refused, next-full, next-other, ends-here, declaration-stops, went}
 use borrow.Author.Needs.{needs}
 use Rattle.reader.proofs.next_declaration.Statement.{statement}
 use Rattle.reader.proofs.next_declaration.Tie as tie
-use Rattle.reader.proofs.next_declaration.Reads as reads
-use Rattle.reader.proofs.next_declaration.Lts as lts
-use Rattle.reader.proofs.full.Reads as full-reads
-use Rattle.reader.proofs.malformed.Reads as malformed-reads
-use Rattle.reader.proofs.read_declaration.Reads as read-declaration-reads
-use Rattle.token.proofs.next_token.Reads as next-token-reads
 
--- src/lib.rt:165:9
 next-token-requires : tie.Need-next-token-requires
 next-token-requires c κs = search needs
 
--- src/lib.rt:167:24
 enum-known-l : tie.Need-enum-known-l
 enum-known-l c = search needs
 
--- src/lib.rt:168:20
 enum-known-l-2 : tie.Need-enum-known-l-2
 enum-known-l-2 c = search needs
 
--- src/lib.rt:171:35
 enum-told : tie.Need-enum-told
 enum-told c = search needs
 
--- src/lib.rt:173:24
 enum-told-2 : tie.Need-enum-told-2
 enum-told-2 c = search needs
 
--- src/lib.rt:174:46
 full-requires : tie.Need-full-requires
 full-requires c κs = search needs
 
--- src/lib.rt:174:25
 returns : tie.Need-returns
 returns c =
     let f = c .before in
@@ -51,23 +38,18 @@ returns c =
       tt,
     )
 
--- src/lib.rt:176:25
 read-declaration-requires : tie.Need-read-declaration-requires
 read-declaration-requires c κs = search needs
 
--- src/lib.rt:178:50
 enum-known-d : tie.Need-enum-known-d
 enum-known-d c = search needs
 
--- src/lib.rt:179:55
 enum-known-d-2 : tie.Need-enum-known-d-2
 enum-known-d-2 c = search needs
 
--- src/lib.rt:185:36
 malformed-requires : tie.Need-malformed-requires
 malformed-requires c κs = search needs
 
--- src/lib.rt:161:1
 returns-2 : tie.Need-returns-2
 returns-2 c =
     let x = c .before in
@@ -75,7 +57,6 @@ returns-2 c =
     let a = i .before .before .before .before .before .args in
     (λ w few. next-refused (a .s .now) (length (a .table .now) / 8) (a .at) (a .rows) (length (a .list .now) / 5 - a .k) (i .next-token .result) (i .next-token .ensures) _ (x .l .given .1), tt)
 
--- src/lib.rt:161:1
 returns-3 : tie.Need-returns-3
 returns-3 c =
     let x = c .before .before .before in
@@ -86,19 +67,15 @@ returns-3 c =
       tt,
     )
 
--- src/lib.rt:161:1
 same-length : tie.Need-same-length
 same-length c = search needs
 
--- src/lib.rt:161:1
 same-length-2 : tie.Need-same-length-2
 same-length-2 c = search needs
 
--- src/lib.rt:161:1
 same-length-3 : tie.Need-same-length-3
 same-length-3 c = search needs
 
--- src/lib.rt:161:1
 returns-4 : tie.Need-returns-4
 returns-4 c =
     let y = c .before in
@@ -111,24 +88,19 @@ returns-4 c =
           (i .next-token .result) (i .next-token .ensures) (x .l2 .given .0 .0) (x .l2 .given .1) (f .before .enum-told2 .given .1)
           (d .read-declaration .result) (d .read-declaration .last .1 .0) (d .read-declaration .last .1 .1 .0)
           (d .read-declaration .kept .1 .0) (d .read-declaration .kept .1 .1 .0) (d .read-declaration .kept .1 .1 .1 .0)
-          (d .read-declaration .ensures (behind-parenthesis (a .s .now) (a .table .now) (a .list .now) (a .at) (a .rows) (a .k) (a .work .now) (d .read-declaration .last .1 .1 .1 .0) w (omega arith)
-          (i .next-token .result) (i .next-token .ensures) (x .l2 .given .0 .0) (x .l2 .given .1) (f .before .enum-told2 .given .1)) (omega arith)) _ (y .d .given .1),
+          (d .read-declaration .ensures) _ (y .d .given .1),
       tt,
     )
 
--- src/lib.rt:161:1
 same-length-4 : tie.Need-same-length-4
 same-length-4 c = search needs
 
--- src/lib.rt:161:1
 same-length-5 : tie.Need-same-length-5
 same-length-5 c = search needs
 
--- src/lib.rt:161:1
 same-length-6 : tie.Need-same-length-6
 same-length-6 c = search needs
 
--- src/lib.rt:161:1
 returns-5 : tie.Need-returns-5
 returns-5 c =
     let y = c .before in
@@ -141,12 +113,10 @@ returns-5 c =
           (i .next-token .result) (i .next-token .ensures) (x .l2 .given .0 .0) (x .l2 .given .1) (f .before .enum-told2 .given .1)
           (d .read-declaration .result) (d .read-declaration .last .1 .0) (d .read-declaration .last .1 .1 .0)
           (d .read-declaration .kept .1 .0) (d .read-declaration .kept .1 .1 .0) (d .read-declaration .kept .1 .1 .1 .0)
-          (d .read-declaration .ensures (behind-parenthesis (a .s .now) (a .table .now) (a .list .now) (a .at) (a .rows) (a .k) (a .work .now) (d .read-declaration .last .1 .1 .1 .0) w (omega arith)
-          (i .next-token .result) (i .next-token .ensures) (x .l2 .given .0 .0) (x .l2 .given .1) (f .before .enum-told2 .given .1)) (omega arith)) _ _ (y .d2 .given .1),
+          (d .read-declaration .ensures) _ _ (y .d2 .given .1),
       omega arith,
     )
 
--- src/lib.rt:161:1
 returns-6 : tie.Need-returns-6
 returns-6 c =
     let x = c .before .before .before in

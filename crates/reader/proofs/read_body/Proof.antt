@@ -1,33 +1,26 @@
+-- `reader::read_body` meets its contract. Assumes nothing.
 use mathlib.Core.Path.{refl}
 use native.Mathlib.Omega.{arith}
 use Rattle.reader.proofs.Parts.{term-inside, no-body, some-body}
 use borrow.Author.Needs.{needs}
 use Rattle.reader.proofs.read_body.Statement.{statement}
 use Rattle.reader.proofs.read_body.Tie as tie
-use Rattle.reader.proofs.read_body.Reads as reads
-use Rattle.reader.proofs.read_body.Lts as lts
-use Rattle.parser.proofs.read_term.Reads as read-term-reads
 
--- src/lib.rt:71:9
 returns : tie.Need-returns
 returns c =
     let a = c .before .before .before .before .args in
     λ i j e.
     no-body (a .s .now) (a .table .now) (a .at) (a .rows) _ _ j (omega arith) refl refl
 
--- src/lib.rt:77:5
 read-term-requires : tie.Need-read-term-requires
 read-term-requires c κs = search needs
 
--- src/lib.rt:67:1
 same-length : tie.Need-same-length
 same-length c = search needs
 
--- src/lib.rt:67:1
 same-length-2 : tie.Need-same-length-2
 same-length-2 c = search needs
 
--- src/lib.rt:67:1
 returns-2 : tie.Need-returns-2
 returns-2 c =
     let k = c .before .before .before .before in

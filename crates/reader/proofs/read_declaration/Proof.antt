@@ -6,55 +6,40 @@ use Rattle.reader.proofs.Tagged.{word-refused, other-word, behind-word,
 use borrow.Author.Needs.{needs}
 use Rattle.reader.proofs.read_declaration.Statement.{statement}
 use Rattle.reader.proofs.read_declaration.Tie as tie
-use Rattle.reader.proofs.read_declaration.Reads as reads
-use Rattle.reader.proofs.read_declaration.Lts as lts
-use Rattle.expects.proofs.declaration_kind.Reads as declaration-kind-reads
-use Rattle.expects.proofs.next_atom.Reads as next-atom-reads
-use Rattle.reader.proofs.malformed.Reads as malformed-reads
-use Rattle.reader.proofs.read_named.Reads as read-named-reads
 
--- src/lib.rt:145:9
 next-atom-requires : tie.Need-next-atom-requires
 next-atom-requires c κs = search needs
 
--- src/lib.rt:147:24
 enum-known-l : tie.Need-enum-known-l
 enum-known-l c = search needs
 
--- src/lib.rt:148:20
 enum-known-l-2 : tie.Need-enum-known-l-2
 enum-known-l-2 c = search needs
 
--- src/lib.rt:151:50
 sub-declaration-kind : tie.Need-sub-declaration-kind
 sub-declaration-kind c =
     let x = c .before in
     let h = atom-inside _ _ _ (x .before .before .next-atom .ensures) _ (x .l2 .given .1) in
     omega arith
 
--- src/lib.rt:151:50
 part-declaration-kind-start : tie.Need-part-declaration-kind-start
 part-declaration-kind-start c =
     let x = c .before in
     let h = atom-inside _ _ _ (x .before .before .next-atom .ensures) _ (x .l2 .given .1) in
     omega arith
 
--- src/lib.rt:151:50
 part-declaration-kind-end : tie.Need-part-declaration-kind-end
 part-declaration-kind-end c =
     let x = c .before in
     let h = atom-inside _ _ _ (x .before .before .next-atom .ensures) _ (x .l2 .given .1) in
     omega arith
 
--- src/lib.rt:151:17
 declaration-kind-requires : tie.Need-declaration-kind-requires
 declaration-kind-requires c κs = search needs
 
--- src/lib.rt:153:49
 malformed-requires : tie.Need-malformed-requires
 malformed-requires c κs = search needs
 
--- src/lib.rt:153:17
 returns : tie.Need-returns
 returns c =
     let d = c .before .before in
@@ -66,11 +51,9 @@ returns c =
     (other-word (a .s .now) _ (a .at) (a .rows) (i .next-atom .result) (i .next-atom .ensures) (x .l2 .given .0 .0) (x .l2 .given .1)
     (d .declaration-kind .result) (d .declaration-kind .ensures) (c .before .if1 .taken) _ (c .malformed .ensures))
 
--- src/lib.rt:155:13
 read-named-requires : tie.Need-read-named-requires
 read-named-requires c κs = search needs
 
--- src/lib.rt:142:1
 returns-2 : tie.Need-returns-2
 returns-2 c =
     let x = c .before in
@@ -79,19 +62,15 @@ returns-2 c =
     λ w room.
     stops _ _ _ _ _ _ _ _ (word-refused (a .s .now) _ (a .at) (a .rows) (i .next-atom .result) (i .next-atom .ensures) _ (x .l .given .1))
 
--- src/lib.rt:142:1
 same-length : tie.Need-same-length
 same-length c = search needs
 
--- src/lib.rt:142:1
 same-length-2 : tie.Need-same-length-2
 same-length-2 c = search needs
 
--- src/lib.rt:142:1
 same-length-3 : tie.Need-same-length-3
 same-length-3 c = search needs
 
--- src/lib.rt:142:1
 returns-3 : tie.Need-returns-3
 returns-3 c =
     let g = c .before .before .before .before .before .before in
@@ -105,8 +84,8 @@ returns-3 c =
     (d .declaration-kind .result) (d .declaration-kind .ensures) (f .if1 .left) (a .k) (a .table .now) (a .list .now) (g .read-named .result)
     (g .read-named .last .1 .0) (g .read-named .last .1 .1 .0)
     (g .read-named .ensures
-    (behind-word (a .s .now) 0 (a .at) (a .rows) (i .next-atom .result) (i .next-atom .ensures) (x .l2 .given .0 .0) (x .l2 .given .1)
-    (d .declaration-kind .result) (d .declaration-kind .ensures) (a .table .now) (a .work .now) w) room)
+    (behind-word (a .s .now) (a .table .now) (a .work .now) (a .at) (a .rows) (i .next-atom .result) (i .next-atom .ensures) (x .l2 .given .0 .0)
+    (x .l2 .given .1) w) room)
 
 pub read-declaration-spec : {M : Type 1} → statement M
 read-declaration-spec =

@@ -7,9 +7,6 @@ use borrow.Author.Needs.{needs}
 use Rattle.reader.proofs.Loop.{Reading, start, roomy, next, ended, stopped}
 use Rattle.reader.proofs.read_declarations.Statement.{statement}
 use Rattle.reader.proofs.read_declarations.Tie as tie
-use Rattle.reader.proofs.read_declarations.Reads as reads
-use Rattle.reader.proofs.read_declarations.Lts as lts
-use Rattle.reader.proofs.next_declaration.Reads as next-declaration-reads
 
 abbrev Inv-loop : tie.InvT-loop
 Inv-loop s table₀ list₀ work₀ from at₀ rows₀ k₀ table list work at rows k = Reading s table₀ list₀ work₀ from table list work at rows k
@@ -17,39 +14,32 @@ Inv-loop s table₀ list₀ work₀ from at₀ rows₀ k₀ table list work at r
 abbrev μ-loop : tie.MeasureT-loop
 μ-loop s table₀ list₀ work₀ from at₀ rows₀ k₀ table list work at rows k = length list₀ / 5 - k
 
--- src/lib.rt:198:5
 loop-holds : tie.Need-loop-holds Inv-loop μ-loop
 loop-holds c =
     let a = c .before .before .before .before .args in
     start (a .s .now) (a .table .now) (a .list .now) (a .work .now) (a .from)
 
--- src/lib.rt:199:13
 next-declaration-requires : tie.Need-next-declaration-requires Inv-loop μ-loop
 next-declaration-requires c κs = search needs
 
--- src/lib.rt:201:27
 enum-known-step : tie.Need-enum-known-step Inv-loop μ-loop
 enum-known-step c = search needs
 
--- src/lib.rt:202:17
 same-length : tie.Need-same-length Inv-loop μ-loop
 same-length c =
     let d = c .before .before .before .before .before .before .before .before .before in
     d .next-declaration .kept .1 .0 ∙ d .before .before .before .before .loop .inv .table-long
 
--- src/lib.rt:202:17
 same-length-2 : tie.Need-same-length-2 Inv-loop μ-loop
 same-length-2 c =
     let d = c .before .before .before .before .before .before .before .before .before in
     d .next-declaration .kept .1 .1 .0 ∙ d .before .before .before .before .loop .inv .list-long
 
--- src/lib.rt:202:17
 same-length-3 : tie.Need-same-length-3 Inv-loop μ-loop
 same-length-3 c =
     let d = c .before .before .before .before .before .before .before .before .before in
     d .next-declaration .kept .1 .1 .1 .0 ∙ d .before .before .before .before .loop .inv .work-long
 
--- src/lib.rt:202:17
 returns : tie.Need-returns Inv-loop μ-loop
 returns c =
     let m = c .before .before .before .before .before .before .before .before .before in
@@ -59,29 +49,24 @@ returns c =
     stopped (a .s .now) (a .table .now) (a .list .now) (a .work .now) (a .from) (l .table) (l .list) (l .work) (l .at) (l .rows) (l .k) (l .inv)
     (d .result) (d .last .1 .0) (d .last .1 .1 .0) (d .last .1 .1 .1 .0) (d .ensures .0) _ (c .before .step .given .1)
 
--- src/lib.rt:205:17
 enum-told : tie.Need-enum-told Inv-loop μ-loop
 enum-told c = search needs
 
--- src/lib.rt:205:17
 same-length-4 : tie.Need-same-length-4 Inv-loop μ-loop
 same-length-4 c =
     let d = c .before .before .before .before .before .before .before .before in
     d .next-declaration .kept .1 .0 ∙ d .before .before .before .before .loop .inv .table-long
 
--- src/lib.rt:205:17
 same-length-5 : tie.Need-same-length-5 Inv-loop μ-loop
 same-length-5 c =
     let d = c .before .before .before .before .before .before .before .before in
     d .next-declaration .kept .1 .1 .0 ∙ d .before .before .before .before .loop .inv .list-long
 
--- src/lib.rt:205:17
 same-length-6 : tie.Need-same-length-6 Inv-loop μ-loop
 same-length-6 c =
     let d = c .before .before .before .before .before .before .before .before in
     d .next-declaration .kept .1 .1 .1 .0 ∙ d .before .before .before .before .loop .inv .work-long
 
--- src/lib.rt:205:17
 returns-2 : tie.Need-returns-2 Inv-loop μ-loop
 returns-2 c =
     let m = c .before .before .before .before .before .before .before .before in
@@ -91,11 +76,9 @@ returns-2 c =
     ended (a .s .now) (a .table .now) (a .list .now) (a .work .now) (a .from) (l .table) (l .list) (l .work) (l .at) (l .rows) (l .k) (l .inv)
     (d .result) (d .last .1 .0) (d .last .1 .1 .0) (d .last .1 .1 .1 .0) (d .ensures .0) (c .enum-told .given .1)
 
--- src/lib.rt:210:36
 enum-known-step-2 : tie.Need-enum-known-step-2 Inv-loop μ-loop
 enum-known-step-2 c = search needs
 
--- src/lib.rt:213:17
 add-k : tie.Need-add-k Inv-loop μ-loop
 add-k c =
     let m = c .before .before .before .before .before .before .before .before .before in
@@ -106,7 +89,6 @@ add-k c =
     (d .result) (d .last .1 .0) (d .last .1 .1 .0) (d .last .1 .1 .1 .0) (d .ensures .0) (d .ensures .1) _ _ (c .before .step2 .given .1) in
     omega (arith, l .inv .list-long, m .before .before .before .before .before .before .before .before .before .good)
 
--- src/lib.rt:198:5
 loop-less : tie.Need-loop-less Inv-loop μ-loop
 loop-less c =
     let m = c .before .before .before .before .before .before .before .before .before in
@@ -117,7 +99,6 @@ loop-less c =
     (d .result) (d .last .1 .0) (d .last .1 .1 .0) (d .last .1 .1 .1 .0) (d .ensures .0) (d .ensures .1) _ _ (c .before .step2 .given .1) in
     omega (arith, l .inv .list-long)
 
--- src/lib.rt:198:5
 loop-again : tie.Need-loop-again Inv-loop μ-loop
 loop-again c =
     let m = c .before .before .before .before .before .before .before .before .before in

@@ -4,62 +4,43 @@ use Rattle.reader.proofs.Named.{name-order, type-stops, body-stops, end
 use borrow.Author.Needs.{needs}
 use Rattle.reader.proofs.read_named.Statement.{statement}
 use Rattle.reader.proofs.read_named.Tie as tie
-use Rattle.reader.proofs.read_named.Reads as reads
-use Rattle.reader.proofs.read_named.Lts as lts
-use Rattle.expects.proofs.parse_identifier.Reads as parse-identifier-reads
-use Rattle.parser.proofs.read_term.Reads as read-term-reads
-use Rattle.reader.proofs.declaration_record.Reads as declaration-record-reads
-use Rattle.reader.proofs.finish_declaration.Reads as finish-declaration-reads
-use Rattle.reader.proofs.read_body.Reads as read-body-reads
 
--- src/lib.rt:111:9
 parse-identifier-requires : tie.Need-parse-identifier-requires
 parse-identifier-requires c κs = search needs
 
--- src/lib.rt:113:24
 enum-known-l : tie.Need-enum-known-l
 enum-known-l c = search needs
 
--- src/lib.rt:114:20
 enum-known-l-2 : tie.Need-enum-known-l-2
 enum-known-l-2 c = search needs
 
--- src/lib.rt:115:17
 read-term-requires : tie.Need-read-term-requires
 read-term-requires c κs = search needs
 
--- src/lib.rt:117:35
 enum-known-ty : tie.Need-enum-known-ty
 enum-known-ty c = search needs
 
--- src/lib.rt:119:21
 enum-known-ty-2 : tie.Need-enum-known-ty-2
 enum-known-ty-2 c = search needs
 
--- src/lib.rt:123:25
 read-body-requires : tie.Need-read-body-requires
 read-body-requires c κs = search needs
 
--- src/lib.rt:125:43
 enum-known-body : tie.Need-enum-known-body
 enum-known-body c = search needs
 
--- src/lib.rt:127:34
 enum-known-body-2 : tie.Need-enum-known-body-2
 enum-known-body-2 c = search needs
 
--- src/lib.rt:131:33
 declaration-record-requires : tie.Need-declaration-record-requires
 declaration-record-requires c κs =
     let x = c .before .before .before .before .before .before .before .before .before .before .before .before .before .before .before .before .before .before .before .before .before in
     let i = x .before .before in
     name-order _ _ (i .parse-identifier .result) (i .parse-identifier .ensures) _ (x .l2 .given .1)
 
--- src/lib.rt:132:29
 finish-declaration-requires : tie.Need-finish-declaration-requires
 finish-declaration-requires c κs = search needs
 
--- src/lib.rt:108:1
 returns : tie.Need-returns
 returns c =
     let x = c .before in
@@ -68,15 +49,12 @@ returns c =
     λ w room t j is.
     stops _ _ _ _ _ _ _ _ (name-refused (a .s .now) _ t j (a .at) (a .rows) (i .parse-identifier .result) (i .parse-identifier .ensures) _ (x .l .given .1))
 
--- src/lib.rt:108:1
 same-length : tie.Need-same-length
 same-length c = search needs
 
--- src/lib.rt:108:1
 same-length-2 : tie.Need-same-length-2
 same-length-2 c = search needs
 
--- src/lib.rt:108:1
 returns-2 : tie.Need-returns-2
 returns-2 c =
     let y = c .before in
@@ -90,15 +68,12 @@ returns-2 c =
     (g .read-term .result) (g .read-term .last .1 .0) (g .read-term .last .1 .1 .0) (g .read-term .kept .1 .0) (g .read-term .kept .1 .1 .0) (g .read-term .ensures)
     _ (y .ty .given .1) _
 
--- src/lib.rt:108:1
 same-length-3 : tie.Need-same-length-3
 same-length-3 c = search needs
 
--- src/lib.rt:108:1
 same-length-4 : tie.Need-same-length-4
 same-length-4 c = search needs
 
--- src/lib.rt:108:1
 returns-3 : tie.Need-returns-3
 returns-3 c =
     let z = c .before in
@@ -114,19 +89,15 @@ returns-3 c =
     (g .read-term .result) (g .read-term .last .1 .0) (g .read-term .last .1 .1 .0) (g .read-term .kept .1 .0) (g .read-term .kept .1 .1 .0) (g .read-term .ensures)
     _ _ _ (y .ty2 .given .1) (f .read-body .result) (f .read-body .last .1 .0) (f .read-body .ensures) _ (z .body .given .1) _
 
--- src/lib.rt:108:1
 same-length-5 : tie.Need-same-length-5
 same-length-5 c = search needs
 
--- src/lib.rt:108:1
 same-length-6 : tie.Need-same-length-6
 same-length-6 c = search needs
 
--- src/lib.rt:108:1
 same-length-7 : tie.Need-same-length-7
 same-length-7 c = search needs
 
--- src/lib.rt:108:1
 returns-4 : tie.Need-returns-4
 returns-4 c =
     let e = c .before .before in
