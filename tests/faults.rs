@@ -1,74 +1,20 @@
-//! Mistakes that are easily made, one at a time, to see that the tests notice each.
-//! The environment variable FAULT names one. A function gives None where the fault leaves it alone.
+//! Mistakes about tokens, words and UTF-8 that are easily made, one at a time, to see that the tests notice each.
+//! `common::fault` has their names. A function that gives an Option gives None where the fault leaves it alone.
+use common::fault::{TEXT, fault, is};
 use common::tokens::{Kind, Token};
 use common::vocabulary::RESERVED;
-use std::sync::OnceLock;
-
-pub const FAULTS: [&str; 39] = [
-    "comment-ends-at-13",
-    "comment-to-the-end",
-    "one-comment-only",
-    "bytes-11-12-layout",
-    "byte-13-no-layout",
-    "byte-0-is-the-end",
-    "atom-goes-over-semicolon",
-    "refused-at-atom-start",
-    "end-at-last-token",
-    "hyphen-no-atom",
-    "underscore-no-atom",
-    "atom-of-any-byte-above-127",
-    "atom-end-one-late",
-    "refused-end-one-late",
-    "brackets-accepted",
-    "reserved-by-prefix",
-    "reserved-without-case",
-    "reserved-by-both-ends",
-    "one-reserved-word-less",
-    "index-from-0",
-    "identifier-before-reserved",
-    "hyphen-in-names",
-    "digit-starts-a-name",
-    "underscore-is-blank",
-    "arrow-reserved",
-    "leading-zero",
-    "zero-no-numeral",
-    "empty-numeral",
-    "numeral-of-32-bits",
-    "same-by-length",
-    "same-by-prefix",
-    "same-by-32-bytes",
-    "same-by-both-ends",
-    "surrogates",
-    "overlong",
-    "above-f4-8f",
-    "cut-sequence-valid",
-    "offset-of-the-broken-byte",
-    "mark-of-two-bytes",
-];
-
-fn fault() -> &'static str {
-    static FAULT: OnceLock<String> = OnceLock::new();
-    FAULT.get_or_init(|| {
-        let name = std::env::var("FAULT").unwrap_or_default();
-        assert!(name.is_empty() || FAULTS.contains(&name.as_str()), "no fault is called {name}");
-        name
-    })
-}
-
-fn is(name: &str) -> bool {
-    fault() == name
-}
 
 /// Whether the fault is one of the first so many, which are about tokens.
 fn is_about_tokens() -> bool {
-    FAULTS[..15].contains(&fault())
+    TEXT[..15].contains(&fault())
 }
 
 pub fn token(source: &[u8], at: usize) -> Option<Token> {
     is_about_tokens().then(|| next_token(source, at))
 }
 
-fn next_token(source: &[u8], at: usize) -> Token {
+/// The token by document 01, with the mistake.
+pub fn next_token(source: &[u8], at: usize) -> Token {
     let start = skip_layout(source, at);
     let Some(&byte) = source.get(start).filter(|byte| **byte != 0 || !is("byte-0-is-the-end")) else {
         return Token::new(Kind::Eof, if is("end-at-last-token") { at } else { start });
@@ -200,7 +146,8 @@ pub fn valid_up_to(source: &[u8]) -> Option<usize> {
     about_utf8.contains(&fault()).then(|| valid_beginning(source))
 }
 
-fn valid_beginning(source: &[u8]) -> usize {
+/// The length of the longest valid beginning by the Unicode standard's table 3-7, with the mistake.
+pub fn valid_beginning(source: &[u8]) -> usize {
     let mut at = 0;
     while let Some(&first) = source.get(at) {
         let (length, low, high) = match first {

@@ -19,7 +19,7 @@ fn main() -> ExitCode {
     let folder = std::env::args().nth(1).unwrap_or_else(|| String::from("tests/lists"));
     #[cfg(mock)]
     if folder == "--faults" {
-        faults::FAULTS.iter().for_each(|fault| println!("{fault}"));
+        common::fault::TEXT.iter().for_each(|fault| println!("{fault}"));
         return ExitCode::SUCCESS;
     }
     let mut tally = Tally::default();

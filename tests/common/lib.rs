@@ -2,10 +2,12 @@
 pub mod alter;
 pub mod damage;
 pub mod escape;
+pub mod fault;
 pub mod lists;
 pub mod modules;
 pub mod printing;
 pub mod prng;
+pub mod refusal;
 pub mod renaming;
 pub mod tally;
 pub mod tokens;

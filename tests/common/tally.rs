@@ -18,6 +18,9 @@ pub fn differ<T: PartialEq + ToString>(what: &str, expected: T, found: T) -> Opt
     })
 }
 
+/// A program may stop when so much failed.
+const MOST_FAILURES: usize = 20;
+
 #[derive(Default)]
 pub struct Tally {
     passed: usize,
@@ -43,8 +46,9 @@ impl Tally {
         println!("{what}");
     }
 
-    pub fn passed(&self) -> usize {
-        self.passed
+    /// Whether so much failed that going on would tell nothing new.
+    pub fn is_hopeless(&self) -> bool {
+        self.failed >= MOST_FAILURES
     }
 
     /// Prints the last line and gives the exit status.

@@ -33,6 +33,43 @@ pub const RESERVED: [&str; 27] = [
     "ann",
 ];
 
+/// The words of a row's kinds, from kind 1.
+pub const KINDS: [&str; 24] = [
+    "var",
+    "global",
+    "universe",
+    "pi",
+    "lam",
+    "app",
+    "sigma",
+    "pair",
+    "fst",
+    "snd",
+    "id",
+    "refl",
+    "j",
+    "empty",
+    "empty-elim",
+    "unit",
+    "star",
+    "unit-elim",
+    "nat",
+    "zero",
+    "succ",
+    "nat-elim",
+    "ann",
+    "ref",
+];
+
+/// The words of a declaration's kinds, from kind 1.
+pub const DECLARATION_KINDS: [&str; 3] = ["postulate", "transparent", "opaque"];
+
+/// A word's kind number in one of the lists above.
+pub fn kind_number(kinds: &[&str], word: &str) -> Option<u32> {
+    let place = kinds.iter().position(|kind| *kind == word)?;
+    Some(place as u32 + 1)
+}
+
 pub const LEAVES: [&str; 5] = ["empty", "unit", "star", "nat", "zero"];
 
 /// A form with term arguments.

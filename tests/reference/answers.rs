@@ -1,25 +1,29 @@
-//! The Rust's answers as lines of text: loading, tokens, words, UTF-8.
+//! The Rust's answers: loading as values and as lines of text, tokens, words, UTF-8.
 //! Only the public interface of the reference library is used, so that rows are those that a caller sees.
-mod rows;
+pub mod rows;
 
+use common::refusal::Refusal;
 use common::tokens::{self, Kind, Token};
 use common::unicode::MARK;
-use hott_kernel::surface::{SurfaceError, SurfaceErrorClass, elaborate_surface, parse_surface};
+use hott_kernel::surface::{SurfaceError, SurfaceErrorClass, SurfaceModule, elaborate_surface, parse_surface};
+use hott_kernel::syntax::Module;
 use hott_kernel::{Lexed, ParserParts};
 
 /// `refused C`, `refused C at P`, or document 01's listing with its lines joined by `|`.
 pub fn answer(source: &[u8]) -> String {
-    let read = match parse_surface(source) {
-        Ok(module) => module,
-        Err(error) => return refusal(&error),
-    };
-    match elaborate_surface(&read) {
-        Ok(module) => rows::listing(&read, &module),
-        Err(error) => refusal(&error),
-    }
+    let listing = |read: SurfaceModule| Ok(rows::listing(&read, &resolve(&read)?));
+    read(source).and_then(listing).unwrap_or_else(|refusal| refusal.to_string())
 }
 
-fn refusal(error: &SurfaceError) -> String {
+pub fn read(source: &[u8]) -> Result<SurfaceModule, Refusal> {
+    parse_surface(source).map_err(refusal)
+}
+
+pub fn resolve(read: &SurfaceModule) -> Result<Module, Refusal> {
+    elaborate_surface(read).map_err(refusal)
+}
+
+fn refusal(error: SurfaceError) -> Refusal {
     let class = match error.class() {
         SurfaceErrorClass::MalformedSyntax => 1,
         SurfaceErrorClass::UnsupportedVersion => 2,
@@ -28,10 +32,7 @@ fn refusal(error: &SurfaceError) -> String {
         SurfaceErrorClass::UnknownName => 5,
         other => panic!("document 01 has no number for {other:?}"),
     };
-    match error.offset() {
-        Some(offset) => format!("refused {class} at {offset}"),
-        None => format!("refused {class}"),
-    }
+    Refusal { class, offset: error.offset() }
 }
 
 /// The first token of a source at or behind an offset, by the Rust's lexer.

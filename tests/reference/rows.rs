@@ -2,11 +2,22 @@
 use hott_kernel::surface::{SurfaceModule, SurfaceTerm, SurfaceTermId};
 use hott_kernel::syntax::{Declaration, Module, Term, TermId};
 
-/// A kind's word; the count, place, name or digits of a row that has them; the children.
-struct Row<Id> {
-    word: &'static str,
-    detail: Option<String>,
-    children: Vec<Id>,
+pub struct Row<Id> {
+    /// The kind's word.
+    pub word: &'static str,
+    /// The count, place, name or digits of a row that has them.
+    pub detail: Option<String>,
+    /// The name that a surface row binds.
+    pub binder: Option<String>,
+    pub children: Vec<Id>,
+}
+
+pub struct Record<'a> {
+    /// The kind's word.
+    pub word: &'static str,
+    pub name: &'a str,
+    pub ty: usize,
+    pub body: Option<usize>,
 }
 
 /// Document 01's listing with its lines joined by `|`.
@@ -19,21 +30,25 @@ pub fn listing(read: &SurfaceModule, module: &Module) -> String {
         let detail = row.detail.iter().map(|detail| format!(" {detail}"));
         lines.push(format!("{number} {}{}", row.word, detail.chain(children).collect::<String>()));
     }
-    for (place, declaration) in module.declarations().iter().enumerate() {
-        lines.push(format!("{place} {}", declaration_line(declaration)));
+    for (place, Record { word, name, ty, body }) in records(module).iter().enumerate() {
+        let body = body.map(|body| format!(" {body}")).unwrap_or_default();
+        lines.push(format!("{place} {word} {name} {ty}{body}"));
     }
     lines.join("|")
 }
 
-fn declaration_line(declaration: &Declaration) -> String {
-    let kind = match declaration {
+pub fn records(module: &Module) -> Vec<Record<'_>> {
+    module.declarations().iter().map(record).collect()
+}
+
+fn record(declaration: &Declaration) -> Record<'_> {
+    let word = match declaration {
         Declaration::Postulate { .. } => "postulate",
         Declaration::Transparent { .. } => "transparent",
         Declaration::Opaque { .. } => "opaque",
     };
-    let body = declaration.body().map(|body| format!(" {}", body.index()));
-    let (name, ty) = (declaration.name(), declaration.ty().index());
-    format!("{kind} {name} {ty}{}", body.unwrap_or_default())
+    let (ty, body) = (declaration.ty().index(), declaration.body().map(TermId::index));
+    Record { word, name: declaration.name(), ty, body }
 }
 
 /// "Core row k has surface row k's kind and children .., and a universe its [digits]; ref becomes var .. or global".
@@ -50,14 +65,14 @@ fn check_rows(surface: &[Row<usize>], core: &[Row<usize>]) {
     }
 }
 
-fn core_rows(module: &Module) -> Vec<Row<usize>> {
+pub fn core_rows(module: &Module) -> Vec<Row<usize>> {
     let declarations = module.declarations().iter();
     let roots = declarations.flat_map(|declaration| [Some(declaration.ty()), declaration.body()]);
     let get = |id| core_row(module.arena().get(id).expect("a row of the arena"));
     reached(module.arena().len(), roots.flatten().collect(), TermId::index, get)
 }
 
-fn surface_rows(module: &SurfaceModule) -> Vec<Row<usize>> {
+pub fn surface_rows(module: &SurfaceModule) -> Vec<Row<usize>> {
     let declarations = module.declarations().iter();
     let roots = declarations.flat_map(|declaration| [Some(declaration.ty()), declaration.body()]);
     let get = |id| surface_row(module.arena().get(id).expect("a row of the arena"));
@@ -73,21 +88,25 @@ fn reached<Id: Copy>(
 ) -> Vec<Row<usize>> {
     let mut rows: Vec<Option<Row<usize>>> = (0..count).map(|_| None).collect();
     while let Some(id) = unread.pop() {
-        let Row { word, detail, children } = get(id);
+        let Row { word, detail, binder, children } = get(id);
         unread.extend(&children);
         let children = children.into_iter().map(index).collect();
-        let earlier = rows[index(id)].replace(Row { word, detail, children });
+        let earlier = rows[index(id)].replace(Row { word, detail, binder, children });
         assert!(earlier.is_none(), "row {} has two parents", index(id));
     }
     rows.into_iter().map(|row| row.expect("a row of some type or body")).collect()
 }
 
 fn with<Id>(word: &'static str, detail: &str) -> Row<Id> {
-    Row { word, detail: Some(detail.to_string()), children: Vec::new() }
+    Row { word, detail: Some(detail.to_string()), binder: None, children: Vec::new() }
 }
 
 fn over<Id: Copy>(word: &'static str, children: &[Id]) -> Row<Id> {
-    Row { word, detail: None, children: children.to_vec() }
+    Row { word, detail: None, binder: None, children: children.to_vec() }
+}
+
+fn binding<Id: Copy>(word: &'static str, binder: &str, children: &[Id]) -> Row<Id> {
+    Row { binder: Some(binder.to_string()), ..over(word, children) }
 }
 
 fn core_row(term: &Term) -> Row<TermId> {
@@ -122,10 +141,10 @@ fn surface_row(term: &SurfaceTerm) -> Row<SurfaceTermId> {
     match term {
         SurfaceTerm::Ref(name) => with("ref", name.as_str()),
         SurfaceTerm::Universe(level) => with("universe", level.as_str()),
-        SurfaceTerm::Pi { domain, codomain, .. } => over("pi", &[*domain, *codomain]),
-        SurfaceTerm::Lam { body, .. } => over("lam", &[*body]),
+        SurfaceTerm::Pi { binder, domain, codomain } => binding("pi", binder.as_str(), &[*domain, *codomain]),
+        SurfaceTerm::Lam { binder, body } => binding("lam", binder.as_str(), &[*body]),
         SurfaceTerm::App(a, b) => over("app", &[*a, *b]),
-        SurfaceTerm::Sigma { domain, codomain, .. } => over("sigma", &[*domain, *codomain]),
+        SurfaceTerm::Sigma { binder, domain, codomain } => binding("sigma", binder.as_str(), &[*domain, *codomain]),
         SurfaceTerm::Pair(a, b) => over("pair", &[*a, *b]),
         SurfaceTerm::Fst(a) => over("fst", &[*a]),
         SurfaceTerm::Snd(a) => over("snd", &[*a]),

@@ -1,0 +1,65 @@
+//! Loading by the Rattle library against document 01 and the Rust:
+//! loading replay [FOLDER], card, compare [COUNT [SEED]], dependence [COUNT [SEED]], program EVERY PROGRAM.
+#[cfg(mock)]
+#[allow(dead_code)]
+mod faults;
+mod loading {
+    pub mod agreement;
+    pub mod card;
+    pub mod check;
+    pub mod compare;
+    #[cfg(any(mock, depends))]
+    pub mod dependence;
+    pub mod edges;
+    pub mod expected;
+    pub mod generated;
+    #[cfg(not(mock))]
+    pub mod library;
+    pub mod listing;
+    #[cfg(mock)]
+    pub mod mock;
+    pub mod order;
+    pub mod program;
+    pub mod replay;
+    pub mod short;
+    pub mod sizes;
+    pub mod station;
+    pub mod tables;
+}
+
+use std::process::ExitCode;
+
+fn main() -> ExitCode {
+    let words: Vec<String> = std::env::args().skip(1).collect();
+    let number = |at: usize, default: usize| words.get(at).map_or(default, |text| text.parse().expect("a number"));
+    match words.first().map(String::as_str) {
+        Some("replay") => loading::replay::run(words.get(1).map_or("tests/lists", String::as_str)),
+        Some("card") => loading::card::run(),
+        Some("compare") => loading::compare::run(number(1, loading::compare::COUNT), number(2, 3) as u64),
+        Some("program") if words.len() > 2 => loading::program::run(number(1, 1), &words[2..]),
+        #[cfg(any(mock, depends))]
+        Some("dependence") => loading::dependence::run(number(1, loading::dependence::COUNT), number(2, 4) as u64),
+        #[cfg(mock)]
+        Some("--faults") => print_all(&common::fault::LOADING),
+        #[cfg(mock)]
+        Some("--dependence-faults") => print_all(&common::fault::DEPENDENCE),
+        #[cfg(mock)]
+        Some("--listing-faults") => print_all(&common::fault::LISTING),
+        #[cfg(mock)]
+        Some("listing") => loading::mock::listing::print(&mut std::io::stdin()),
+        #[cfg(mock)]
+        _ => loading::mock::listing::command(&words),
+        #[cfg(not(mock))]
+        _ => {
+            let counts = "compare [COUNT [SEED]] | dependence [COUNT [SEED]]";
+            eprintln!("usage: loading replay [FOLDER] | card | {counts} | program EVERY PROGRAM");
+            ExitCode::from(2)
+        }
+    }
+}
+
+#[cfg(mock)]
+fn print_all(faults: &[&str]) -> ExitCode {
+    faults.iter().for_each(|fault| println!("{fault}"));
+    ExitCode::SUCCESS
+}

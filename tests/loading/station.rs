@@ -1,0 +1,61 @@
+//! One call with tables full of rubbish, and what it leaves.
+#[cfg(not(mock))]
+use super::library;
+#[cfg(mock)]
+use super::mock as library;
+use super::tables::{Rubbish, Sizes, Tables};
+
+pub struct Loaded {
+    /// 0 for acceptance.
+    pub class: u8,
+    /// How many values follow, and the values: rows and declarations, or an offset.
+    pub answer: [u64; 3],
+    pub tables: Tables<Vec<u32>>,
+    /// The table beside which a word was changed that was not lent.
+    pub outside: Option<&'static str>,
+}
+
+/// So many words before and behind each table are not lent and must stay.
+const GUARD: usize = 8;
+const GUARD_WORD: u32 = 0x5a5a_5a5a;
+
+pub fn load(source: &[u8], sizes: Sizes, rubbish: Rubbish) -> Loaded {
+    lend(sizes, rubbish, |lent, answer| library::load(source, lent, answer))
+}
+
+/// Asks whether declaration i depends on j.
+#[cfg(any(mock, depends))]
+pub fn depends(source: &[u8], places: [usize; 2], sizes: Sizes, rubbish: Rubbish) -> Loaded {
+    lend(sizes, rubbish, |lent, answer| library::depends(source, places, lent, answer))
+}
+
+fn lend(sizes: Sizes, rubbish: Rubbish, call: impl FnOnce(Tables<&mut [u32]>, &mut [u64; 3]) -> u8) -> Loaded {
+    let mut tables = sizes.map(|words| guarded(rubbish, words));
+    let mut answer = [u64::MAX; 3];
+    let class = call(tables.each_mut().map(|words| lent(words)), &mut answer);
+    let changed = |words: &[u32]| words.iter().any(|word| *word != GUARD_WORD);
+    let outside = tables.named().into_iter().find(|(_, words)| {
+        let (before, rest) = words.split_at(GUARD);
+        changed(before) || changed(&rest[rest.len() - GUARD..])
+    });
+    let outside = outside.map(|(name, _)| name);
+    let tables = tables.map(|mut words| {
+        words.truncate(words.len() - GUARD);
+        words.drain(..GUARD);
+        words
+    });
+    Loaded { class, answer, tables, outside }
+}
+
+/// A table's words with guards around them.
+fn guarded(rubbish: Rubbish, count: usize) -> Vec<u32> {
+    let mut words = rubbish.words(count + 2 * GUARD);
+    words[..GUARD].fill(GUARD_WORD);
+    words[GUARD + count..].fill(GUARD_WORD);
+    words
+}
+
+fn lent(words: &mut [u32]) -> &mut [u32] {
+    let end = words.len() - GUARD;
+    &mut words[GUARD..end]
+}
