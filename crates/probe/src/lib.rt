@@ -148,12 +148,20 @@ pub extern "C" fn sulyterom_starts_with_mark(s: &[u8]) -> bool
 
 // How many rows reading alone stores, for measurements: 0 after a refusal.
 #[no_mangle]
-pub extern "C" fn sulyterom_parse(s: &[u8], surface: &mut [u32], declarations: &mut [u32], work: &mut [u32]) -> usize
+pub extern "C" fn sulyterom_parse(
+    s: &[u8],
+    surface: &mut [u32],
+    declarations: &mut [u32],
+    work: &mut [u32],
+) -> usize
     ensures { λ r. ⌜ r ≡ rows-read (parse (now (s .entry)) (lengths-of (now (surface .entry)) [] (now (declarations .entry)) (now (work .entry))) .answer) ⌝ }
 {
     let read = loader::parse_surface(s, surface, declarations, work);
     match read {
-        ModuleRead::Done { rows, declarations: _ } => rows,
+        ModuleRead::Done {
+            rows,
+            declarations: _,
+        } => rows,
         ModuleRead::Refused(_) => 0,
     }
 }
