@@ -1,11 +1,14 @@
 // The listing of document 01: reads standard input and prints the core module that loading leaves, or the refusal.
+ghost use Rattle.listing.specs.Program.{Written};
 use libc::STDIN_FILENO;
 use libc::STDOUT_FILENO;
 use surface::Answer;
 
 // "It lends 1,024 rows to each row table, 256 declarations and a work area of 16,384 words." The text has room for every listing of
 // these tables: a row takes at most 60 bytes and a declaration 40 beside what is copied from the source.
-fn list(s: &[u8], text: &mut [u8]) -> usize {
+fn list(s: &[u8], text: &mut [u8]) -> usize
+    ensures { λ r. ⌜ Written (now (s .entry)) (now (text .entry)) r (now (text .exit)) ⌝ }
+{
     let mut surface = [0u32; 8192];
     let mut core = [0u32; 8192];
     let mut declarations = [0u32; 1280];
