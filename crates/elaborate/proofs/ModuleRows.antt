@@ -13,13 +13,13 @@ use lib.ListN.{length, getD, take, length-append, length-map}
 use Rattle.terms.specs.Tree.{Forest, nil, Tree, tree, maybe, next, roots, cells}
 use Rattle.terms.specs.Label.{Name, part, Label, Declaration, trees, declared-name}
 use Rattle.terms.specs.Resolution.{find, resolve-declaration, first-unknown, refused-name, resolve-module}
-use Rattle.terms.specs.Rows.{pad, surface-row, surface-rows, core-row}
+use Rattle.terms.specs.Rows.{pad, surface-row, surface-rows, core-row, read-record, read-records}
 use Rattle.terms.proofs.Cells.{next-cells}
 use Rattle.terms.proofs.Tables.{Wide}
 use Rattle.terms.proofs.Widths.{wide-surface, wide-records, count-records}
 use Rattle.scope.specs.Scope.{declared-names}
 use Rattle.elaborate.specs.RowTerm.{Outcome, done, unknown-at, and-then, arguments, row-term}
-use Rattle.elaborate.specs.Loadable.{Shaped, Nested, Bodied, WellRead, read-record, read-records, Loadable}
+use Rattle.elaborate.specs.Loadable.{Shaped, Nested, Bodied, WellRead, Loadable}
 use Rattle.elaborate.specs.Declarations.{Fitting, ModuleOutcome, refused, module-outcome, parts-outcome, record-word, declaration-outcome}
 use Rattle.elaborate.proofs.RowWords.{place, word-of, first-word-of}
 use Rattle.elaborate.proofs.TableRows.{HasRows, has-rows, table-length, stored-rows}

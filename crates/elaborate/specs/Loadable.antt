@@ -5,10 +5,10 @@ use mathlib.Core.List.{List, [], _∷_}
 use mathlib.Core.Option.{Option, none, some}
 use lib.ListN.{length, take, drop}
 use Rattle.terms.specs.Forms.{arity-of}
-use Rattle.terms.specs.Tree.{Forest, nil, node, Tree, count, next, roots}
+use Rattle.terms.specs.Tree.{Forest, nil, node, Tree, count}
 use Rattle.terms.specs.Label.{Label, Declaration, trees}
 use Rattle.terms.specs.Resolution.{RefusedName, first-refused, resolve-module}
-use Rattle.terms.specs.Rows.{pad, joined, surface-rows, core-rows}
+use Rattle.terms.specs.Rows.{joined, surface-rows, core-rows, read-records}
 use Rattle.stacks.specs.Stacks.{WorkArea}
 use Rattle.elaborate.specs.declared.Elaborated.{Elaborated}
 
@@ -32,14 +32,6 @@ Bodied k (some b) = k ≡ 1 → ⊥
 abbrev pub WellRead : List Declaration → Type 0
 WellRead [] = Unit {0}
 WellRead (d ∷ l) = Shaped (trees d) × Nested 512 (trees d) × Bodied (d .kind) (d .body) × WellRead l
-
--- "A declaration record: kind .., name start, name length, type row, body row (0 for a postulate)", where the first row of all is row n.
-abbrev pub read-record : ℕ → Declaration → List ℕ
-read-record n d = d .kind ∷ d .start ∷ d .length ∷ pad 2 (roots n (trees d))
-
-abbrev pub read-records : ℕ → List Declaration → List (List ℕ)
-read-records n [] = []
-read-records n (d ∷ l) = read-record n d ∷ read-records (next n (trees d)) l
 
 -- The tables hold the declarations ds, and there is room for their core rows.
 pub record Loadable (surface declarations core work : List ℕ) (rows count : ℕ) (ds : List Declaration) : Type 0 where

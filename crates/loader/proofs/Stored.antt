@@ -20,7 +20,8 @@ use Rattle.elaborate.specs.Loadable.{Loadable}
 use Rattle.loader.specs.Leaving.{lengths-of, Stores, ResolvesTo, Resolves, Counts}
 use Rattle.loader.proofs.Parsing.{load-refused, load-short, load-names}
 use Rattle.loader.proofs.WellRead.{well-read}
-use Rattle.loader.proofs.Fronts.{same-records, kept-records, Fronts, fronts}
+use Rattle.elaborate.proofs.ResolvedTrees.{records-kept}
+use Rattle.loader.proofs.Fronts.{Fronts, fronts}
 
 module _ (s surface core declarations work : List ℕ) where
   abbrev z : Lengths
@@ -80,7 +81,7 @@ module _ (s surface core declarations work : List ℕ) where
           all-rows = rows-are ∙ g .all-rows;
           surface-read = surface-front;
           all-records = count-is;
-          records-read = ap (λ (n : ℕ). take (n * 5) declarations₁) count-is ∙ g .list-front ∙ ap joined (same-records 0 ds);
+          records-read = ap (λ (n : ℕ). take (n * 5) declarations₁) count-is ∙ g .list-front;
           well-read = well-read s ds (p .readable .derives) (p .readable .shallow);
         }
 
@@ -108,7 +109,7 @@ module _ (s surface core declarations work : List ℕ) where
                   c,
                   g .surface-front,
                   ap (λ (n : ℕ). take (n * 8) core₁) (sym rows-are) ∙ b .1,
-                  g .list-front ∙ ap joined (sym (kept-records s ds)),
+                  g .list-front ∙ ap joined (sym (records-kept s [] 0 ds)),
                 ),
                 subst (λ (y : Answer). Counts y surface core declarations) (sym c)
                     (record { rows-read = g .rows; rows-resolved = omega (arith, rows-are); records = g .count }),

@@ -1,13 +1,12 @@
 -- What a call of `parse_surface` leaves: the module read, with no name looked at. Assumes nothing.
 use mathlib.Core.List.{List, []}
-use Prim.Native.Nat.{ℕ, _/_, _≤_}
+use Prim.Native.Nat.{ℕ}
 use lib.ListN.{length}
 use Rattle.terms.specs.Label.{Declaration}
-use Rattle.terms.specs.Rows.{pad, joined, surface-rows}
-use Rattle.surface.specs.Reader.{Position, start, Result, done, refused}
+use Rattle.terms.specs.Rows.{pad, joined, surface-rows, read-records}
+use Rattle.surface.specs.Reader.{start, Result, done, refused}
 use Rattle.surface.specs.Loading.{Lengths, parsing}
 use Rattle.reader.specs.declared.ModuleRead.{ModuleRead}
-use Rattle.reader.specs.ModuleWords.{records}
 
 -- The answer, and the three tables.
 pub record Parsed : Type 0 where
@@ -22,7 +21,7 @@ parsed z (refused r) = record { answer = ModuleRead.Refused r; surface = pad (z 
 parsed z (done ds q) = record {
   answer = ModuleRead.Done (q .rows) (length ds);
   surface = pad (z .surface) (joined (surface-rows 0 ds));
-  declarations = pad (z .declarations) (joined (records 0 ds));
+  declarations = pad (z .declarations) (joined (read-records 0 ds));
   work = pad (z .work) [];
 }
 

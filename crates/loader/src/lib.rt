@@ -201,9 +201,9 @@ pub fn parse_surface(
 {
     let read = parse(s, surface, declarations, work);
     let rows = rows_read(read);
-    let count = declarations_read(read);
+    let n = declarations_read(read);
     tables::clear_from(surface, rows * 8);
-    tables::clear_from(declarations, count * 5);
+    tables::clear_from(declarations, n * 5);
     clear(work);
     read
 }

@@ -12,7 +12,7 @@ use Rattle.token.specs.declared.Lexed.the-variants.{Got, Refused}
 use Rattle.terms.specs.Forms.{edition-0-1}
 use Rattle.terms.specs.Label.{Label, Declaration, trees}
 use Rattle.terms.specs.Tree.{nil, Tree, tree, next, roots}
-use Rattle.terms.specs.Rows.{pad}
+use Rattle.terms.specs.Rows.{pad, read-record}
 use Rattle.surface.specs.Reader.{Position, Result, done, refused}
 use Rattle.surface.specs.Reading.{closing, name, declared}
 use Rattle.tables.specs.Tables.{with-words}
@@ -20,7 +20,7 @@ use Rattle.rows.specs.Places.{stored-at}
 use Rattle.rows.proofs.Storing.{stored-at-place}
 use Rattle.expects.specs.Expects.{position-at, Reads}
 use Rattle.reader.specs.declared.DeclarationRead.{DeclarationRead}
-use Rattle.reader.specs.ModuleWords.{whole-term, one-body, named-declaration, forest-words, body-trees, body-row, record-words}
+use Rattle.reader.specs.ModuleWords.{whole-term, one-body, named-declaration, forest-words, body-trees, body-row}
 use Rattle.reader.specs.Parts.{Finishes}
 use Rattle.reader.specs.Reads.{Declares}
 use Rattle.reader.proofs.Ahead.{Onward, term-onward}
@@ -106,7 +106,7 @@ module _ (s table list : List ℕ) (at n k : ℕ) (t : Token) (j : ℕ) (x : Lex
       ∙ ap (λ (i : ℕ). with-words table (n * 8) (u ++ forest-words i f)) first-row
       ∙ ap (with-words table (n * 8)) (sym (forest-split n (a .type) f))
 
-  record-is : words ≡ record-words n made
+  record-is : words ≡ read-record n made
   record-is = ap₂ (λ (i : ℕ) (l : List ℕ). suc j ∷ m .start ∷ (m .end - m .start) ∷ i ∷ l) (a .row-is)
       (ap (λ (i : ℕ). i ∷ []) (b .row-is) ∙ body-word n₁ (b .body) ∙ ap (λ (i : ℕ). pad 1 (roots i (body-trees (b .body)))) first-row)
 

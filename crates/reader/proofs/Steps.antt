@@ -13,7 +13,7 @@ use Rattle.token.specs.declared.Lexed.the-variants.{Got, Refused}
 use Rattle.terms.specs.Forms.{edition-0-1}
 use Rattle.terms.specs.Label.{Declaration, trees}
 use Rattle.terms.specs.Tree.{next, roots, cells}
-use Rattle.terms.specs.Rows.{surface-row, surface-rows, joined}
+use Rattle.terms.specs.Rows.{surface-row, surface-rows, joined, read-record, read-records}
 use Rattle.terms.proofs.Tables.{length-pad}
 use Rattle.surface.specs.Reader.{Position, Result, done, refused, Reader, after, _>>=_, pure, refuse, nowhere, at-token}
 use Rattle.surface.specs.Reading.{lexed, token, onwards, declarations}
@@ -22,7 +22,7 @@ use Rattle.expects.specs.Expects.{position-at}
 use Rattle.expects.proofs.Ahead.{TokenAhead, token-got}
 use Rattle.reader.specs.declared.DeclarationRead.{DeclarationRead}
 use Rattle.reader.specs.declared.ModuleRead.{ModuleRead}
-use Rattle.reader.specs.ModuleWords.{whole-term, one-declaration, all-declarations, row-words, record-words, records}
+use Rattle.reader.specs.ModuleWords.{whole-term, one-declaration, all-declarations, row-words}
 use Rattle.reader.specs.Parts.{ReadsFrom, left, Went}
 use Rattle.reader.specs.Reads.{Inside, Declares}
 use Rattle.reader.proofs.Ahead.{declaration-onward}
@@ -84,7 +84,7 @@ ends-here s table list at n k x h t e q =
 
 -- A declaration d behind n rows and k declarations, and then others.
 module _ (n k n₁ : ℕ) (table list table₁ list₁ : List ℕ) (d : Declaration) (rows : n₁ ≡ next n (trees d)) (few : n₁ * 8 ≤ length table) (room : k < length list / 5)
-    (u : table₁ ≡ with-words table (n * 8) (row-words n d)) (v : list₁ ≡ with-words list (k * 5) (record-words n d)) where
+    (u : table₁ ≡ with-words table (n * 8) (row-words n d)) (v : list₁ ≡ with-words list (k * 5) (read-record n d)) where
   more-rows : (ds : List Declaration) → with-words table₁ (n₁ * 8) (joined (surface-rows n₁ ds)) ≡ with-words table (n * 8) (joined (surface-rows n (d ∷ ds)))
   more-rows ds =
       ap (λ (l : List ℕ). with-words l (n₁ * 8) (joined (surface-rows n₁ ds))) u
@@ -92,11 +92,11 @@ module _ (n k n₁ : ℕ) (table list table₁ list₁ : List ℕ) (d : Declarat
       ∙ ap (λ (i : ℕ). with-words table (n * 8) (row-words n d ++ joined (surface-rows i ds))) rows
       ∙ ap (with-words table (n * 8)) (sym (joined-append (map surface-row (cells n (trees d))) (surface-rows (next n (trees d)) ds)))
 
-  more-records : (ds : List Declaration) → with-words list₁ ((k + 1) * 5) (joined (records n₁ ds)) ≡ with-words list (k * 5) (joined (records n (d ∷ ds)))
+  more-records : (ds : List Declaration) → with-words list₁ ((k + 1) * 5) (joined (read-records n₁ ds)) ≡ with-words list (k * 5) (joined (read-records n (d ∷ ds)))
   more-records ds =
-      ap (λ (l : List ℕ). with-words l ((k + 1) * 5) (joined (records n₁ ds))) v
-      ∙ with-more-words list (k * 5) ((k + 1) * 5) (record-words n d) (joined (records n₁ ds)) (omega (arith, length-pad 2 (roots n (trees d)))) (omega arith)
-      ∙ ap (λ (i : ℕ). with-words list (k * 5) (record-words n d ++ joined (records i ds))) rows
+      ap (λ (l : List ℕ). with-words l ((k + 1) * 5) (joined (read-records n₁ ds))) v
+      ∙ with-more-words list (k * 5) ((k + 1) * 5) (read-record n d) (joined (read-records n₁ ds)) (omega (arith, length-pad 2 (roots n (trees d)))) (omega arith)
+      ∙ ap (λ (i : ℕ). with-words list (k * 5) (read-record n d ++ joined (read-records i ds))) rows
 
   pub further : (y : Result (List Declaration)) (r : ModuleRead) (table₂ list₂ : List ℕ) → ReadsFrom n₁ (k + 1) y table₁ list₁ r table₂ list₂
       → ReadsFrom n k (after y (λ l. pure (d ∷ l))) table list r table₂ list₂

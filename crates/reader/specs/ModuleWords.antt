@@ -1,12 +1,12 @@
 -- Declarations read straight into rows and records: the reading order of `surface`, with each declaration as words. Assumes nothing.
-use mathlib.Core.List.{List, [], _∷_, map}
+use mathlib.Core.List.{List, map}
 use mathlib.Core.Option.{Option, none, some}
 use Prim.Native.Nat.{ℕ}
 use Rattle.token.specs.declared.Token.{Token}
 use Rattle.terms.specs.Forms.{edition-0-1}
 use Rattle.terms.specs.Label.{Label, Declaration, trees}
-use Rattle.terms.specs.Tree.{Forest, nil, Tree, tree, maybe, next, roots, cells}
-use Rattle.terms.specs.Rows.{pad, surface-row, joined}
+use Rattle.terms.specs.Tree.{Forest, nil, Tree, tree, maybe, next, cells}
+use Rattle.terms.specs.Rows.{surface-row, joined}
 use Rattle.surface.specs.Reader.{Reader}
 use Rattle.surface.specs.Reading.{term, beginning, closing, body, declared, declaration, declarations}
 
@@ -46,12 +46,3 @@ body-trees b = maybe b nil (λ t. tree t nil)
 abbrev pub body-row : ℕ → Option (Tree Label) → ℕ
 body-row n none = 0
 body-row n (some b) = next n (b .args)
-
--- "A declaration record: kind, name start, name length, type row, body row (0 for a postulate)."
-abbrev pub record-words : ℕ → Declaration → List ℕ
-record-words n d = d .kind ∷ d .start ∷ d .length ∷ pad 2 (roots n (trees d))
-
--- The records of declarations, the first row of all being row n.
-abbrev pub records : ℕ → List Declaration → List (List ℕ)
-records n [] = []
-records n (d ∷ l) = record-words n d ∷ records (next n (trees d)) l

@@ -7,13 +7,13 @@ use lib.ListN.{length}
 use Rattle.token.specs.declared.Token.{Token}
 use Rattle.terms.specs.Label.{Label, Declaration}
 use Rattle.terms.specs.Tree.{Tree}
-use Rattle.terms.specs.Rows.{surface-rows, joined}
+use Rattle.terms.specs.Rows.{surface-rows, joined, read-records}
 use Rattle.surface.specs.Reader.{Result, done, refused}
 use Rattle.tables.specs.Tables.{with-words}
 use Rattle.rows.specs.Places.{stored-at}
 use Rattle.expects.specs.Expects.{position-at}
 use Rattle.parser.specs.declared.TermRead.{TermRead}
-use Rattle.reader.specs.ModuleWords.{one-body, named-declaration, all-declarations, forest-words, body-trees, body-row, records}
+use Rattle.reader.specs.ModuleWords.{one-body, named-declaration, all-declarations, forest-words, body-trees, body-row}
 use Rattle.reader.specs.Reads.{Inside, Declares}
 use Rattle.reader.specs.declared.DeclarationRead.{DeclarationRead}
 use Rattle.reader.specs.declared.Step.{Step}
@@ -43,7 +43,7 @@ ReadsNamed s table list work kind at n k r table₁ list₁ =
 -- The answer for the declarations that stand behind n rows and k declarations: the words of their rows and records stand behind those.
 abbrev pub ReadsFrom : ℕ → ℕ → Result (List Declaration) → List ℕ → List ℕ → ModuleRead → List ℕ → List ℕ → Type 0
 ReadsFrom n k (done ds q) table list r table₁ list₁ =
-    (r ≡ ModuleRead.Done (q .rows) (k + length ds)) × (table₁ ≡ with-words table (n * 8) (joined (surface-rows n ds))) × (list₁ ≡ with-words list (k * 5) (joined (records n ds)))
+    (r ≡ ModuleRead.Done (q .rows) (k + length ds)) × (table₁ ≡ with-words table (n * 8) (joined (surface-rows n ds))) × (list₁ ≡ with-words list (k * 5) (joined (read-records n ds)))
 ReadsFrom n k (refused x) table list r table₁ list₁ = r ≡ ModuleRead.Refused x
 
 -- The declarations that are left at an offset behind n rows and k declarations.

@@ -54,6 +54,14 @@ abbrev pub declaration-records : ℕ → List CoreDeclaration → List (List ℕ
 declaration-records n [] = []
 declaration-records n (d ∷ l) = declaration-record n d ∷ declaration-records (next n (d .trees)) l
 
+-- The same records of declarations that are read and not resolved yet: resolution keeps them.
+abbrev pub read-record : ℕ → Declaration → List ℕ
+read-record n d = d .kind ∷ d .start ∷ d .length ∷ pad 2 (roots n (trees d))
+
+abbrev pub read-records : ℕ → List Declaration → List (List ℕ)
+read-records n [] = []
+read-records n (d ∷ l) = read-record n d ∷ read-records (next n (trees d)) l
+
 -- Rows one behind the other, as a lent table holds them.
 abbrev pub joined : List (List ℕ) → List ℕ
 joined [] = []
