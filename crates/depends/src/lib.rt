@@ -11,6 +11,7 @@ ghost use lib.Dec.{ltb};
 ghost use Prim.Native.Nat.{_-_};
 ghost use Rattle.tables.specs.Tables.{cleared};
 ghost use Rattle.surface.specs.Reader.{start, nowhere};
+ghost use Rattle.surface.specs.declared.Dependence as Dependence;
 ghost use Rattle.surface.specs.Dependence.{asking, ask, Answers};
 ghost use Rattle.loader.specs.Leaving.{lengths-of, leaving};
 ghost use Rattle.depends.specs.Search.{global-at, row-behind, first-row, first-global, mention};
@@ -87,6 +88,13 @@ fn are_places(i: usize, j: usize, count: usize) -> bool
     false
 }
 
+// Loading's own refusal comes before 12.
+fn refused_by_loading(refusal: Refusal) -> Dependence
+    ensures { λ r. ⌜ r ≡ Dependence.Refused refusal ⌝ }
+{
+    Dependence::Refused(refusal)
+}
+
 fn nowhere_12() -> Refusal
     ensures { λ r. ⌜ r ≡ nowhere 12 ⌝ }
 {
@@ -123,7 +131,7 @@ pub fn depends(
 {
     let loaded = loader::load(s, surface, core, declarations, work);
     match loaded {
-        Answer::Refused(refusal) => Dependence::Refused(refusal),
+        Answer::Refused(refusal) => refused_by_loading(refusal),
         Answer::Loaded {
             rows: _,
             declarations: count,

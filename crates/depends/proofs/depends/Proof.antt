@@ -16,6 +16,9 @@ load-requires c κs = search needs
 enum-known-loaded : tie.Need-enum-known-loaded
 enum-known-loaded c = search needs
 
+refused-by-loading-requires : tie.Need-refused-by-loading-requires
+refused-by-loading-requires c κs = search needs
+
 enum-known-loaded-2 : tie.Need-enum-known-loaded-2
 enum-known-loaded-2 c = search needs
 
@@ -65,11 +68,11 @@ same-length-8 c = search needs
 
 returns-2 : tie.Need-returns-2
 returns-2 c =
-    let a = c .before .before .before .before .before .before .before .before .before .before .before .before .before .before .before .before .before .before .before .before .before .args in
-    let k = c .before .before .before .before .before .before .before .before .before .before .before .load in
-    let m = c .before .loaded .given in
+    let a = c .before .before .before .before .before .before .before .before .before .before .before .before .before .before .before .before .before .before .before .before .before .before .args in
+    let k = c .before .before .before .before .before .before .before .before .before .before .before .before .load in
+    let m = c .before .before .loaded .given in
     let w = ask-refused (a .s .now) (lengths-of (a .surface .now) (a .core .now) (a .declarations .now) (a .work .now)) (a .i) (a .j) (k .result) (k .last .1 .0) (k .last .1 .1 .0) (k .last .1 .1 .1 .0) (k .last .1 .1 .1 .1 .0) (k .ensures) (m .0 .0) (m .1) in
-    (w .answers, w .leaves)
+    (subst (Answers (a .s .now) (a .i) (a .j) (asking (a .s .now) (lengths-of (a .surface .now) (a .core .now) (a .declarations .now) (a .work .now)) (a .i) (a .j) start)) (sym (c .refused-by-loading .ensures)) (w .answers), w .leaves)
 
 same-length-9 : tie.Need-same-length-9
 same-length-9 c = search needs
@@ -100,6 +103,7 @@ depends-spec =
     (tie.spec
     load-requires
     enum-known-loaded
+    refused-by-loading-requires
     enum-known-loaded-2
     are-places-requires
     find-mention-requires
