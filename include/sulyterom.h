@@ -1,4 +1,5 @@
-/* sulyterom.h: loads a hott-surface/0.1 source into a numbered core module that a kernel can check.
+/* sulyterom.h: loads a hott-surface/0.1 source into a numbered core module that a kernel can check, and tells which
+   declarations depend on which.
 
    `rt staticlib station` makes target/staticlib/libstation.a for x86-64 Linux. Link it:
 
@@ -62,8 +63,8 @@ extern "C" {
 
 /* The number that a function returns: 0, or the class of the refusal. "At" says that a place comes with it: the
    offset in the source, from 0. The others have no place. Where several apply, the order is: 11, 6, not UTF-8 (1),
-   a leading EF BB BF (1), then 1, 2, 3, 7, 8 and 9 as the source is read, 10, and then for each declaration in turn
-   4 and 5. */
+   a leading EF BB BF (1), then 1, 2, 3, 7, 8 and 9 as the source is read, 10, then for each declaration in turn 4
+   and 5, and last 12. */
 enum {
     SULYTEROM_ACCEPTED = 0,
     /* From the source. */
@@ -78,7 +79,9 @@ enum {
     SULYTEROM_SURFACE_FULL = 8,      /* fewer rows lent than the source has terms */
     SULYTEROM_DECLARATIONS_FULL = 9, /* fewer records lent than the source has declarations */
     SULYTEROM_CORE_SHORT = 10,       /* fewer core rows lent than the source has terms */
-    SULYTEROM_WORK_SHORT = 11        /* under SULYTEROM_WORK_WORDS words of work area */
+    SULYTEROM_WORK_SHORT = 11,       /* under SULYTEROM_WORK_WORDS words of work area */
+    /* From the question. */
+    SULYTEROM_NO_DECLARATION = 12 /* dependence asked of a place that is no declaration */
 };
 
 /* The kind of a row, its first word. Row k of a table begins at word k * SULYTEROM_ROW_WORDS. Rows are numbered
@@ -165,6 +168,19 @@ enum { SULYTEROM_POSTULATE = 1, SULYTEROM_TRANSPARENT = 2, SULYTEROM_OPAQUE = 3 
 uint8_t sulyterom_load(const uint8_t *source, size_t source_length, uint32_t *surface, size_t surface_length,
                        uint32_t *core, size_t core_length, uint32_t *declarations, size_t declarations_length,
                        uint32_t *work, size_t work_length, uint64_t *answer, size_t answer_length);
+
+/* Asks whether the declaration at place i depends on the one at place j: whether a row of i's type or body is global j.
+   The source is loaded first.
+
+   Yes: returns 0 and leaves in answer 1, such a row's number, 0. No: returns 0 and leaves 0, 0, 0. After both the
+   tables hold what loading leaves.
+
+   Refused, by loading or since i or j is not the place of a declaration: returns the class, with the answer and the
+   tables as sulyterom_load leaves them. */
+uint8_t sulyterom_depends(const uint8_t *source, size_t source_length, size_t i, size_t j, uint32_t *surface,
+                          size_t surface_length, uint32_t *core, size_t core_length, uint32_t *declarations,
+                          size_t declarations_length, uint32_t *work, size_t work_length, uint64_t *answer,
+                          size_t answer_length);
 
 #ifdef __cplusplus
 }

@@ -46,7 +46,7 @@ static const int kinds[] = {
 static const int classes[] = {
     SULYTEROM_MALFORMED,         SULYTEROM_VERSION,     SULYTEROM_RESERVED_NAME, SULYTEROM_DUPLICATE_NAME,
     SULYTEROM_UNKNOWN_NAME,      SULYTEROM_LONG_SOURCE, SULYTEROM_FRAMES,        SULYTEROM_SURFACE_FULL,
-    SULYTEROM_DECLARATIONS_FULL, SULYTEROM_CORE_SHORT,  SULYTEROM_WORK_SHORT,
+    SULYTEROM_DECLARATIONS_FULL, SULYTEROM_CORE_SHORT,  SULYTEROM_WORK_SHORT,    SULYTEROM_NO_DECLARATION,
 };
 static const int declaration_kinds[] = {SULYTEROM_POSTULATE, SULYTEROM_TRANSPARENT, SULYTEROM_OPAQUE};
 
@@ -73,15 +73,25 @@ typedef struct {
 } lengths;
 static const lengths whole = {SURFACE, CORE, DECLARATIONS, WORK};
 
-/* Loads with all tables full of rubbish. */
-static uint8_t load(const char *source, lengths lent) {
+/* Every call finds rubbish. */
+static void fill(void) {
     memset(surface, 0xa5, sizeof surface);
     memset(core, 0xa5, sizeof core);
     memset(declarations, 0xa5, sizeof declarations);
     memset(work, 0xa5, sizeof work);
     memset(answer, 0xa5, sizeof answer);
+}
+
+static uint8_t load(const char *source, lengths lent) {
+    fill();
     return sulyterom_load((const uint8_t *)source, strlen(source), surface, lent.surface, core, lent.core,
                           declarations, lent.declarations, work, lent.work, answer, 3);
+}
+
+static uint8_t depends(const char *source, size_t i, size_t j, lengths lent) {
+    fill();
+    return sulyterom_depends((const uint8_t *)source, strlen(source), i, j, surface, lent.surface, core, lent.core,
+                             declarations, lent.declarations, work, lent.work, answer, 3);
 }
 
 static int answers(uint64_t count, uint64_t first, uint64_t second) {
@@ -167,6 +177,18 @@ int main(void) {
     lent = whole;
     lent.work = WORK - 1;
     refuses("a short work area: 11", input, lent, SULYTEROM_WORK_SHORT, -1);
+
+    check("y depends on x, by row 1", depends(input, 1, 0, whole) == 0 && answers(1, 1, 0));
+    check("a yes leaves what loading leaves", hold(whole, surface_rows, core_rows, records));
+    check("x does not depend on y", depends(input, 0, 1, whole) == 0 && answers(0, 0, 0));
+    check("a no leaves what loading leaves", hold(whole, surface_rows, core_rows, records));
+    check("nor does y on itself", depends(input, 1, 1, whole) == 0 && answers(0, 0, 0));
+    check("no third declaration: 12", depends(input, 2, 0, whole) == SULYTEROM_NO_DECLARATION && answers(0, 0, 0));
+    check("12 leaves 0", hold(whole, nothing, nothing, nothing));
+    check("nor as the second place: 12", depends(input, 0, 2, whole) == SULYTEROM_NO_DECLARATION);
+    check("nor at the last number: 12", depends(input, SIZE_MAX, SIZE_MAX, whole) == SULYTEROM_NO_DECLARATION);
+    check("loading comes first: 1 at 1", depends("(", 2, 2, whole) == SULYTEROM_MALFORMED && answers(1, 1, 0));
+    check("a refused load leaves 0", hold(whole, nothing, nothing, nothing));
 
     memset(answer, 0xa5, sizeof answer);
     check("room for two numbers: accepted",

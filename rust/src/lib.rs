@@ -85,9 +85,39 @@ pub fn load<'a, W>(source: &'a [u8], tables: &'a mut Tables<W>) -> Result<Loaded
 where
     W: AsRef<[u32]> + AsMut<[u32]>,
 {
-    let (class, answer) = library::load(source, tables.lend());
-    match (class, answer) {
+    match library::load(source, tables.lend()) {
         (0, [2, rows, declarations]) => Ok(Loaded::new(source, tables, rows as usize, declarations as usize)),
-        _ => Err(Refusal::from_numbers(class, answer)),
+        (class, answer) => Err(Refusal::from_numbers(class, answer)),
+    }
+}
+
+/// Asks whether the declaration at place `i` depends on the one at place `j`: the number of a row of `i`'s type or body
+/// that is a global `j`, or `None`.
+///
+/// The source is loaded first, and a yes or a no leaves the tables as [`load`] does.
+///
+/// # Errors
+///
+/// A [`Refusal`] of loading, or [`Class::NoDeclaration`] if `i` or `j` is not the place of a declaration; every word of
+/// the tables is then 0.
+///
+/// ```
+/// use sulyterom::{Class, Tables, depends};
+///
+/// let source = b"(surface 0 1)(module m)(postulate x nat)(postulate y (pi x (ref x) (ref x)))";
+/// let mut tables = Tables::for_bytes(source.len());
+/// assert_eq!(depends(source, 1, 0, &mut tables)?, Some(1));
+/// assert_eq!(depends(source, 0, 1, &mut tables)?, None);
+/// assert_eq!(depends(source, 0, 2, &mut tables).unwrap_err().class, Class::NoDeclaration);
+/// # Ok::<(), sulyterom::Refusal>(())
+/// ```
+pub fn depends<W>(source: &[u8], i: usize, j: usize, tables: &mut Tables<W>) -> Result<Option<usize>, Refusal>
+where
+    W: AsMut<[u32]>,
+{
+    match library::depends(source, i, j, tables.lend()) {
+        (0, [0, 0, 0]) => Ok(None),
+        (0, [1, row, 0]) => Ok(Some(row as usize)),
+        (class, answer) => Err(Refusal::from_numbers(class, answer)),
     }
 }

@@ -19,6 +19,23 @@ unsafe extern "C" {
         answer: *mut u64,
         answer_length: usize,
     ) -> u8;
+
+    fn sulyterom_depends(
+        source: *const u8,
+        source_length: usize,
+        i: usize,
+        j: usize,
+        surface: *mut u32,
+        surface_length: usize,
+        core: *mut u32,
+        core_length: usize,
+        declarations: *mut u32,
+        declarations_length: usize,
+        work: *mut u32,
+        work_length: usize,
+        answer: *mut u64,
+        answer_length: usize,
+    ) -> u8;
 }
 
 /// The class, 0 for acceptance; how many values follow, and the values.
@@ -29,6 +46,31 @@ pub fn load(source: &[u8], lent: Tables<&mut [u32]>) -> (u8, [u64; 3]) {
         sulyterom_load(
             source.as_ptr(),
             source.len(),
+            lent.surface.as_mut_ptr(),
+            lent.surface.len(),
+            lent.core.as_mut_ptr(),
+            lent.core.len(),
+            lent.declarations.as_mut_ptr(),
+            lent.declarations.len(),
+            lent.work.as_mut_ptr(),
+            lent.work.len(),
+            answer.as_mut_ptr(),
+            answer.len(),
+        )
+    };
+    (class, answer)
+}
+
+/// The class, 0 for yes and no; 1 and a row for a yes, 0 for a no.
+pub fn depends(source: &[u8], i: usize, j: usize, lent: Tables<&mut [u32]>) -> (u8, [u64; 3]) {
+    let mut answer = [0; 3];
+    // SAFETY: as above; any numbers may be asked of.
+    let class = unsafe {
+        sulyterom_depends(
+            source.as_ptr(),
+            source.len(),
+            i,
+            j,
             lent.surface.as_mut_ptr(),
             lent.surface.len(),
             lent.core.as_mut_ptr(),

@@ -28,11 +28,13 @@ pub enum Class {
     CoreShort = 10,
     /// The work area has under [`WORK_WORDS`](crate::WORK_WORDS) words.
     WorkShort = 11,
+    /// Dependence was asked of a place that is no declaration.
+    NoDeclaration = 12,
 }
 
 impl Class {
     /// All classes, by number.
-    pub const ALL: [Self; 11] = [
+    pub const ALL: [Self; 12] = [
         Self::Malformed,
         Self::Version,
         Self::ReservedName,
@@ -44,6 +46,7 @@ impl Class {
         Self::DeclarationsFull,
         Self::CoreShort,
         Self::WorkShort,
+        Self::NoDeclaration,
     ];
 
     /// Document 01's number.
@@ -66,6 +69,7 @@ impl fmt::Display for Class {
             Self::DeclarationsFull => "declaration list full",
             Self::CoreShort => "core table has fewer rows than were read",
             Self::WorkShort => "work area under 16,384 words",
+            Self::NoDeclaration => "no declaration at a place asked of",
         })
     }
 }

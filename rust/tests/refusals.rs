@@ -100,6 +100,7 @@ fn shown_as_the_listing_shows_them_and_a_sentence() {
     assert_eq!(shown(nowhere(Class::DeclarationsFull)), "refused 9: declaration list full");
     assert_eq!(shown(nowhere(Class::CoreShort)), "refused 10: core table has fewer rows than were read");
     assert_eq!(shown(nowhere(Class::WorkShort)), "refused 11: work area under 16,384 words");
+    assert_eq!(shown(nowhere(Class::NoDeclaration)), "refused 12: no declaration at a place asked of");
 }
 
 #[test]
