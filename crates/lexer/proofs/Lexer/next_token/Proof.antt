@@ -44,7 +44,6 @@ use denote.Triple.Entry.{Vals, onEntry}
 use denote.Triple.Spec.{Meets, tripleOf}
 use denote.Triple.Table.{entered, cited}
 use denote.Triple.Walked.{says, Stays, stay-ref, walkOf, goes-ref, Walks, ends-at, walked, walk-meets}
-use denote.Exit.{yes}
 use denote.Triple.Clauses.{ensured, lasts}
 use Rattle.token.specs.Token.{next-token}
 use Rattle.lexer.specs.Lexing.{position-after, step-at}
@@ -54,7 +53,6 @@ use Rattle.lexer.proofs.Lexer as T
 use Rattle.lexer.proofs.Lexer.Laws as T′
 use Rattle.lexer.proofs.Stepped as S
 use Rattle.lexer.proofs.Stepped.Laws as S′
-use Rattle.token.specs.declared.Lexed.{Lexed}
 use Rattle.token.proofs.Lexed as X
 use Rattle.token.proofs.Lexed.Laws as X′
 use Rattle.lexer.proofs.step as step

@@ -1,0 +1,5 @@
+pub mod Again
+pub mod Turns
+pub mod Whole
+pub mod Worded
+pub mod Written
