@@ -1,10 +1,12 @@
 -- A record that the table has whole, and one that it has not; lists that a table has room for, and longer ones. Assumes nothing.
-use mathlib.Core.Path.{_≡_, sym, ap}
+use mathlib.Core.Path.{_≡_, refl, sym, ap}
 use Prim.Native.Nat.{ℕ, _*_, _/_, _≤_, _<_}
 use mathlib.Core.List.{List}
-use mathlib.Core.Bool.{cond}
+use mathlib.Core.Bool.{Bool, true, false, cond}
+use native.Mathlib.Omega.{arith}
+use lib.Dec.{ltb}
 use lib.ListN.{length}
-use borrow.Author.Tests.{lt-ltb, le-ltb}
+use borrow.Author.Tests.{ltb-true, lt-ltb, le-ltb}
 use Rattle.records.specs.declared.Declaration.{Declaration}
 use Rattle.records.specs.Records.{blank, five-words, record-at, set-five, record-put, word-limit}
 
@@ -31,3 +33,11 @@ limit-below count words h = sym (ap (λ b. cond b (count * 5) words) (lt-ltb cou
 pub limit-above : (count words : ℕ) → words / 5 ≤ count → words ≡ word-limit count words
 unfolding word-limit
 limit-above count words h = sym (ap (λ b. cond b (count * 5) words) (le-ltb count (words / 5) h))
+
+pub limit-within : (count words : ℕ) → word-limit count words ≤ words
+unfolding word-limit
+limit-within count words = by-test (ltb count (words / 5)) refl
+  where
+    by-test : (b : Bool) → ltb count (words / 5) ≡ b → cond b (count * 5) words ≤ words
+    by-test true e = omega (arith, ltb-true count (words / 5) e)
+    by-test false e = omega arith

@@ -1,0 +1,3 @@
+mod Fronts
+mod Moves
+mod Room
