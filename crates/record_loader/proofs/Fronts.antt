@@ -4,10 +4,10 @@ use mathlib.Core.List.{List, _++_}
 use Prim.Native.Nat.{ℕ, _≤_}
 use native.Mathlib.Omega.{arith}
 use lib.ListN.{length, take, drop}
-use lib.Seq.{take-at, drop-at, length-take-le}
+use lib.Seq.{take-at, length-take-le}
 use Rattle.records.specs.Records.{word-limit}
 use Rattle.records.proofs.Whole.{limit-within}
-use Rattle.record_loader.specs.Recorded.{front, Behind}
+use Rattle.record_loader.specs.Recorded.{front}
 
 -- The part that is lent, of m words.
 module _ (count m : ℕ) (words : List ℕ) (e : m ≡ word-limit count (length words)) where
@@ -25,8 +25,5 @@ module _ (count m : ℕ) (words : List ℕ) (e : m ≡ word-limit count (length 
     front-left : front count words (ys ++ drop m words) ≡ ys
     front-left = ap (λ (n : ℕ). take n (ys ++ drop m words)) (sym e) ∙ take-at ys (drop m words) m long
 
-    behind-left : Behind count words (ys ++ drop m words)
-    behind-left = ap (λ (n : ℕ). drop n (ys ++ drop m words)) (sym e) ∙ drop-at ys (drop m words) m long ∙ ap (λ (n : ℕ). drop n words) e
-
-    pub left : {X : Type 0} (f : List ℕ → X) (g : ℕ → X) → f ys ≡ g (length (take m words)) → (f (front count words (ys ++ drop m words)) ≡ g (word-limit count (length words))) × Behind count words (ys ++ drop m words)
-    left f g h = (ap f front-left ∙ h ∙ ap g (sym taken ∙ e), behind-left)
+    pub left : {X : Type 0} (f : List ℕ → X) (g : ℕ → X) → f ys ≡ g (length (take m words)) → f (front count words (ys ++ drop m words)) ≡ g (word-limit count (length words))
+    left f g h = ap f front-left ∙ h ∙ ap g (sym taken ∙ e)

@@ -1,3 +1,5 @@
+mod Enough
 mod Fronts
+mod Lists
 mod Moves
 mod Room

@@ -1,15 +1,13 @@
 -- Document 01, "the declaration list is lent as a slice of records, 9 then counting records": what loading and reading leave. Assumes nothing.
-use mathlib.Core.Path.{_≡_}
 use mathlib.Core.List.{List}
 use Prim.Native.Nat.{ℕ, _*_}
-use lib.ListN.{length, take, drop}
+use lib.ListN.{length, take}
 use Rattle.records.specs.declared.Declaration.{Declaration}
 use Rattle.records.specs.Records.{records-of, word-limit}
 use Rattle.surface.specs.declared.Answer.{Answer}
-use Rattle.surface.specs.Loading.{Lengths, Outcome, load}
+use Rattle.surface.specs.Loading.{Lengths, Outcome}
 use Rattle.reader.specs.declared.ModuleRead.{ModuleRead}
-use Rattle.loader.specs.Leaving.{leaving}
-use Rattle.loader.specs.Parsed.{Parsed, parse, parsing-leaves}
+use Rattle.loader.specs.Parsed.{Parsed}
 
 -- The lengths of the lent tables, where there are so many words for the declarations.
 abbrev pub lengths-with : List ℕ → List ℕ → ℕ → List ℕ → Lengths
@@ -47,9 +45,6 @@ parsed-list r surface list work = record { answer = r; surface = surface; declar
 abbrev pub read-with-records : ℕ → Parsed → ParsedList
 read-with-records n o = parsed-list (o .answer) (o .surface) (records-of (o .declarations) n) (o .work)
 
--- Of a table of words the words in front are what a list of so many records takes, and those behind are as they were.
+-- The words of a table that a list of so many records takes.
 abbrev pub front : ℕ → List ℕ → List ℕ → List ℕ
 front count words words₁ = take (word-limit count (length words)) words₁
-
-abbrev pub Behind : ℕ → List ℕ → List ℕ → Type 0
-Behind count words words₁ = drop (word-limit count (length words)) words₁ ≡ drop (word-limit count (length words)) words

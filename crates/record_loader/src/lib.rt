@@ -10,7 +10,7 @@ ghost use Rattle.records.specs.Records.{word-limit};
 ghost use Rattle.surface.specs.Loading.{load};
 ghost use Rattle.loader.specs.Leaving.{leaving};
 ghost use Rattle.loader.specs.Parsed.{parse, parsing-leaves};
-ghost use Rattle.record_loader.specs.Recorded.{lengths-with, lengths-of-list, recorded, with-records, parsed-list, read-with-records, front, Behind};
+ghost use Rattle.record_loader.specs.Recorded.{lengths-with, lengths-of-list, recorded, with-records, parsed-list, read-with-records, front};
 
 // Loads with as many words for the declarations as a list of so many records takes.
 fn load_words(
@@ -21,7 +21,7 @@ fn load_words(
     count: usize,
     work: &mut [u32],
 ) -> Answer
-    ensures { λ r. ⌜ (leaving r (now (surface .exit)) (now (core .exit)) (front count (now (words .entry)) (now (words .exit))) (now (work .exit)) ≡ load (now (s .entry)) (lengths-with (now (surface .entry)) (now (core .entry)) (word-limit count (length (now (words .entry)))) (now (work .entry)))) × Behind count (now (words .entry)) (now (words .exit)) ⌝ }
+    ensures { λ r. ⌜ leaving r (now (surface .exit)) (now (core .exit)) (front count (now (words .entry)) (now (words .exit))) (now (work .exit)) ≡ load (now (s .entry)) (lengths-with (now (surface .entry)) (now (core .entry)) (word-limit count (length (now (words .entry)))) (now (work .entry))) ⌝ }
 {
     let limit = records::word_limit(count, words.len());
     loader::load(s, surface, core, &mut words[..limit], work)
@@ -35,7 +35,7 @@ fn parse_words(
     count: usize,
     work: &mut [u32],
 ) -> ModuleRead
-    ensures { λ r. ⌜ (parsing-leaves r (now (surface .exit)) (front count (now (words .entry)) (now (words .exit))) (now (work .exit)) ≡ parse (now (s .entry)) (lengths-with (now (surface .entry)) [] (word-limit count (length (now (words .entry)))) (now (work .entry)))) × Behind count (now (words .entry)) (now (words .exit)) ⌝ }
+    ensures { λ r. ⌜ parsing-leaves r (now (surface .exit)) (front count (now (words .entry)) (now (words .exit))) (now (work .exit)) ≡ parse (now (s .entry)) (lengths-with (now (surface .entry)) [] (word-limit count (length (now (words .entry)))) (now (work .entry))) ⌝ }
 {
     let limit = records::word_limit(count, words.len());
     loader::parse_surface(s, surface, &mut words[..limit], work)
