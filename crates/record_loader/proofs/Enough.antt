@@ -2,7 +2,7 @@
 use mathlib.Core.Path.{_≡_, refl, sym, ap, _∙_}
 use mathlib.Core.List.{List, []}
 use mathlib.Core.Bool.{Bool, true, false}
-use Prim.Native.Nat.{ℕ, _*_, _/_, _≤_}
+use Prim.Native.Nat.{ℕ, _*_, _≤_}
 use native.Mathlib.Omega.{arith}
 use lib.Dec.{ltb}
 use lib.ListN.{length}
@@ -18,7 +18,7 @@ use Rattle.surface.specs.Reader.{Position, start, Result, done, refused}
 use Rattle.surface.specs.Loading.{Lengths, Outcome, outcome, parsing, loading, load}
 use Rattle.reader.specs.declared.ModuleRead.{ModuleRead}
 use Rattle.loader.specs.Leaving.{leaving}
-use Rattle.loader.specs.Parsed.{Parsed, parsed, parse, parsing-leaves}
+use Rattle.loader.specs.Parsed.{parsed, parse, parsing-leaves}
 use Rattle.records.specs.Records.{records-of, word-limit}
 use Rattle.records.proofs.Whole.{limit-below, limit-above}
 use Rattle.record_loader.specs.Recorded.{lengths-with, recorded, with-records, parsed-list, read-with-records, front}

@@ -10,8 +10,7 @@ use lib.Seq.{getD-take, length-take-le, take-length}
 use borrow.Author.Tests.{ltb-true, ltb-false}
 use Rattle.terms.specs.Rows.{pad}
 use Rattle.terms.proofs.Tables.{length-pad}
-use Rattle.records.specs.declared.Declaration.{Declaration}
-use Rattle.records.specs.Records.{blank, five-words, record-at, records-from, records-of, word-limit}
+use Rattle.records.specs.Records.{blank, five-words, record-at, records-from, records-of}
 use Rattle.records.proofs.Whole.{at-whole, at-behind, limit-below, limit-above}
 use Rattle.record_loader.specs.Recorded.{front}
 

@@ -1,6 +1,6 @@
 -- Room for 13,107 declarations is room enough: with more, reading and loading give the same, since a declaration takes five bytes at least and
 -- a source of more than 65,535 is refused. Assumes nothing.
-use mathlib.Core.Path.{_≡_, refl, ap, _∙_, subst}
+use mathlib.Core.Path.{_≡_, refl, ap, subst}
 use mathlib.Core.List.{List, [], _∷_}
 use mathlib.Core.Bool.{Bool, true, false, not}
 use Prim.Native.Nat.{ℕ, zero, suc, _+_, _*_, _/_, _≤_}
@@ -17,7 +17,7 @@ use Rattle.terms.specs.Tree.{Tree}
 use Rattle.terms.specs.Label.{Label, Declaration}
 use Rattle.terms.specs.Resolution.{first-refused}
 use Rattle.surface.specs.Reader.{Position, start, Result, done, refused, Reader, after, pure, refuse, require, nowhere, at-offset}
-use Rattle.surface.specs.Reading.{Head, term, token, closing, beginning, declaration, onwards, declarations, head, read-module}
+use Rattle.surface.specs.Reading.{term, token, closing, beginning, declaration, onwards, declarations, head, read-module}
 use Rattle.surface.specs.Loading.{Lengths, frame-limit, parsing, reading, accept, loading}
 use Rattle.surface.proofs.Steps.{no-done, after-elim, require-elim, done-inj, open-goes}
 use Rattle.expects.proofs.Ahead.{token-got}
