@@ -37,8 +37,8 @@ fn parse_words(
 ) -> ModuleRead
     ensures { λ r. ⌜ parsing-leaves r (now (surface .exit)) (front count (now (words .entry)) (now (words .exit))) (now (work .exit)) ≡ parse (now (s .entry)) (lengths-with (now (surface .entry)) [] (word-limit count (length (now (words .entry)))) (now (work .entry))) ⌝ }
 {
-    let limit = records::word_limit(count, words.len());
-    loader::parse_surface(s, surface, &mut words[..limit], work)
+    let room = records::word_limit(count, words.len());
+    loader::parse_surface(s, surface, &mut words[..room], work)
 }
 
 // Loads a source into the lent tables and the lent list. The array has the words of 13,107 records, which no source of 65,535 bytes exceeds.
