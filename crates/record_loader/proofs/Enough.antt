@@ -55,6 +55,10 @@ module _ {X : Type 0} (left : ℕ → Result (List Declaration) → X) (n : ℕ)
           let l : 13107 ≤ n = ltb-false n 13107 e in
           ap (λ (d : ℕ). left d (Q d)) (sym (limit-above n 65535 l)) ∙ padded l (Q 65535) refl ∙ ap (left (n * 5)) (settles .same 65535 (n * 5) (omega arith) (omega arith))
 
+-- As many words as fit give what five for each record give.
+pub settled : (n : ℕ) (Q : ℕ → Result (List Declaration)) → Settles Q → Q (word-limit n 65535) ≡ Q (n * 5)
+settled n Q settles = enough (λ d r. r) n Q settles (λ l r e. refl)
+
 module _ (s : List ℕ) (z : Lengths) (n : ℕ) (Q : ℕ → Result (List Declaration)) (settles : Settles Q) where
   abbrev outcome-in : ℕ → Result (List Declaration) → Outcome
   outcome-in d r = outcome s (with-words z d) r
@@ -85,12 +89,18 @@ module _ (s surface core words words₁ work : List ℕ) (n : ℕ) (l : length w
   abbrev lent : ℕ → Lengths
   lent d = lengths-with surface core d work
 
+  -- An outcome of loading, or of a question that loads first.
+  pub outcome-left : (Q : ℕ → Result (List Declaration)) → Settles Q → (r : Answer) (surface₁ core₁ work₁ : List ℕ)
+      → leaving r surface₁ core₁ (front n words words₁) work₁ ≡ outcome s (lent (word-limit n (length words))) (Q (word-limit n (length words)))
+      → recorded r surface₁ core₁ (records-of words₁ n) work₁ ≡ with-records n (outcome s (lent (n * 5)) (Q (n * 5)))
+  outcome-left Q settles r surface₁ core₁ work₁ h =
+      ap (λ t. recorded r surface₁ core₁ t work₁) (front-records words words₁ n e) ∙ ap (with-records n) h
+      ∙ ap (λ (w : ℕ). with-records n (outcome s (lent (word-limit n w)) (Q (word-limit n w)))) l ∙ outcome-enough s (lent 0) n Q settles
+
   pub load-left : (r : Answer) (surface₁ core₁ work₁ : List ℕ) → leaving r surface₁ core₁ (front n words words₁) work₁ ≡ load s (lent (word-limit n (length words)))
       → recorded r surface₁ core₁ (records-of words₁ n) work₁ ≡ with-records n (load s (lent (n * 5)))
   unfolding load
-  load-left r surface₁ core₁ work₁ h =
-      ap (λ t. recorded r surface₁ core₁ t work₁) (front-records words words₁ n e) ∙ ap (with-records n) h
-      ∙ ap (λ (w : ℕ). with-records n (load s (lent (word-limit n w)))) l ∙ outcome-enough s (lent 0) n (λ d. loading s (lent d) start) (loading-settles s (lent 0))
+  load-left r surface₁ core₁ work₁ h = outcome-left (λ d. loading s (lent d) start) (loading-settles s (lent 0)) r surface₁ core₁ work₁ h
 
   pub parse-left : (r : ModuleRead) (surface₁ work₁ : List ℕ) → parsing-leaves r surface₁ (front n words words₁) work₁ ≡ parse s (lent (word-limit n (length words)))
       → parsed-list r surface₁ (records-of words₁ n) work₁ ≡ read-with-records n (parse s (lent (n * 5)))

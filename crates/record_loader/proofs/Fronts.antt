@@ -1,5 +1,5 @@
 -- The front of a table of words is lent to a call, and comes back as the call left it, with what lies behind. Assumes nothing.
-use mathlib.Core.Path.{_≡_, sym, ap, _∙_}
+use mathlib.Core.Path.{_≡_, sym, ap, _∙_, subst}
 use mathlib.Core.List.{List, _++_}
 use Prim.Native.Nat.{ℕ, _≤_}
 use native.Mathlib.Omega.{arith}
@@ -25,5 +25,5 @@ module _ (count m : ℕ) (words : List ℕ) (e : m ≡ word-limit count (length 
     front-left : front count words (ys ++ drop m words) ≡ ys
     front-left = ap (λ (n : ℕ). take n (ys ++ drop m words)) (sym e) ∙ take-at ys (drop m words) m long
 
-    pub left : {X : Type 0} (f : List ℕ → X) (g : ℕ → X) → f ys ≡ g (length (take m words)) → f (front count words (ys ++ drop m words)) ≡ g (word-limit count (length words))
-    left f g h = ap f front-left ∙ h ∙ ap g (sym taken ∙ e)
+    pub left : (P : List ℕ → ℕ → Type 0) → P ys (length (take m words)) → P (front count words (ys ++ drop m words)) (word-limit count (length words))
+    left P h = subst (λ (d : List ℕ). P d (word-limit count (length words))) (sym front-left) (subst (P ys) (sym taken ∙ e) h)

@@ -1,5 +1,5 @@
-mod Enough
-mod Fronts
-mod Lists
+pub mod Enough
+pub mod Fronts
+pub mod Lists
 mod Moves
-mod Room
+pub mod Room

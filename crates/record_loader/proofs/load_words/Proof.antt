@@ -1,4 +1,5 @@
 -- `record_loader::load_words` meets its contract: loading is lent the front of the words. Assumes nothing.
+use mathlib.Core.Path.{_≡_}
 use borrow.Author.Needs.{needs}
 use Rattle.surface.specs.Loading.{load}
 use Rattle.loader.specs.Leaving.{leaving}
@@ -37,8 +38,7 @@ returns c =
     let k = c .before .before .before .before .before .before .before .before .load in
     let w = c .before .before .before .before .before .before .before .before .before .before .before .before .before .word-limit in
     left (a .count) (w .result) (a .words .now) (w .ensures) (k .last .1 .1 .1 .0) (k .kept .1 .1 .1 .0)
-    (λ d. leaving (k .result) (k .last .1 .0) (k .last .1 .1 .0) d (k .last .1 .1 .1 .1 .0))
-    (λ n. load (a .s .now) (lengths-with (a .surface .now) (a .core .now) n (a .work .now)))
+    (λ d n. leaving (k .result) (k .last .1 .0) (k .last .1 .1 .0) d (k .last .1 .1 .1 .1 .0) ≡ load (a .s .now) (lengths-with (a .surface .now) (a .core .now) n (a .work .now)))
     (k .ensures)
 
 pub load-words-spec : {M : Type 1} → statement M

@@ -1,4 +1,5 @@
 -- `record_loader::parse_words` meets its contract: reading is lent the front of the words. Assumes nothing.
+use mathlib.Core.Path.{_≡_}
 use borrow.Author.Needs.{needs}
 use mathlib.Core.List.{[]}
 use Rattle.loader.specs.Parsed.{parse, parsing-leaves}
@@ -34,8 +35,7 @@ returns c =
     let k = c .before .before .before .before .before .before .parse-surface in
     let w = c .before .before .before .before .before .before .before .before .before .before .word-limit in
     left (a .count) (w .result) (a .words .now) (w .ensures) (k .last .1 .1 .0) (k .kept .1 .1 .0)
-    (λ d. parsing-leaves (k .result) (k .last .1 .0) d (k .last .1 .1 .1 .0))
-    (λ n. parse (a .s .now) (lengths-with (a .surface .now) [] n (a .work .now)))
+    (λ d n. parsing-leaves (k .result) (k .last .1 .0) d (k .last .1 .1 .1 .0) ≡ parse (a .s .now) (lengths-with (a .surface .now) [] n (a .work .now)))
     (k .ensures)
 
 pub parse-words-spec : {M : Type 1} → statement M
