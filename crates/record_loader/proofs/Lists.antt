@@ -20,7 +20,7 @@ unfolding records-from
 same-from t u k zero h = refl
 same-from t u k (suc n) h = λ i. h k (omega arith) i ∷ same-from t u (suc k) n (λ j l. h j (omega arith)) i
 
-five-same : (t u : List ℕ) (at : ℕ) → ((i : ℕ) → at ≤ i → i < at + 5 → getD t i 0 ≡ getD u i 0) → five-words t at ≡ five-words u at
+pub five-same : (t u : List ℕ) (at : ℕ) → ((i : ℕ) → at ≤ i → i < at + 5 → getD t i 0 ≡ getD u i 0) → five-words t at ≡ five-words u at
 five-same t u at h = λ i. record {
   kind = h at (omega arith) (omega arith) i;
   «name_start» = h (at + 1) (omega arith) (omega arith) i;
@@ -48,7 +48,7 @@ front-records words words₁ n e = by-test (ltb n (length words / 5)) refl
         ap (λ (t : List ℕ). records-of t n) (sym (take-length words₁))
         ∙ ap (λ (x : ℕ). records-of (take x words₁) n) (e ∙ limit-above n (length words) (ltb-false n (length words / 5) f))
 
-getD-pad : (m : ℕ) (l : List ℕ) (i : ℕ) → i < m → getD (pad m l) i 0 ≡ getD l i 0
+pub getD-pad : (m : ℕ) (l : List ℕ) (i : ℕ) → i < m → getD (pad m l) i 0 ≡ getD l i 0
 getD-pad zero l i h = absurd (omega arith)
 getD-pad (suc m) [] zero h = refl
 getD-pad (suc m) [] (suc i) h = getD-pad m [] i (omega arith)
