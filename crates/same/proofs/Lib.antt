@@ -1,0 +1,3 @@
+mod Words
+mod Contents
+mod Declarations

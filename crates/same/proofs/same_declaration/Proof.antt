@@ -1,0 +1,49 @@
+-- `same::same_declaration` meets its contract. Assumes nothing.
+use borrow.Author.Tests.{not-true, not-false}
+use Rattle.same.proofs.Declarations.{declaration-no, declaration-by-rows}
+use borrow.Author.Needs.{needs}
+use Rattle.same.proofs.same_declaration.Statement.{statement}
+use Rattle.same.proofs.same_declaration.Tie as tie
+use Rattle.same.proofs.same_declaration.Reads as reads
+use Rattle.same.proofs.same_declaration.Lts as lts
+use Rattle.same.proofs.first_row.Reads as first-row-reads
+use Rattle.same.proofs.same_record.Reads as same-record-reads
+use Rattle.same.proofs.same_rows.Reads as same-rows-reads
+
+same-record-requires : tie.Need-same-record-requires
+same-record-requires c κs = search needs
+
+returns : tie.Need-returns
+returns c =
+    let a = c .before .before .before .before .before .before .before .before .args in
+    declaration-no (a .s .now) (a .core1 .now) (a .declarations1 .now) (a .t .now) (a .core2 .now) (a .declarations2 .now) (a .k) (c .before .same-record .result) (c .before .same-record .ensures) (not-true _ (c .if1 .taken))
+
+first-row-requires : tie.Need-first-row-requires
+first-row-requires c κs = search needs
+
+add-first-row : tie.Need-add-first-row
+add-first-row c = search needs
+
+first-row-requires-2 : tie.Need-first-row-requires-2
+first-row-requires-2 c κs = search needs
+
+same-rows-requires : tie.Need-same-rows-requires
+same-rows-requires c κs = search needs
+
+returns-2 : tie.Need-returns-2
+returns-2 c =
+    let a = c .before .before .before .before .before .before .before .before .before .before .before .args in
+    declaration-by-rows (a .s .now) (a .core1 .now) (a .declarations1 .now) (a .t .now) (a .core2 .now) (a .declarations2 .now) (a .k) (c .before .before .before .before .same-record .result) (c .before .before .before .before .same-record .ensures) (not-false _ (c .before .before .before .if1 .left))
+    (c .before .before .first-row .result) (c .before .first-row2 .result) (c .before .before .first-row .ensures .0) (c .before .first-row2 .ensures .0) (c .same-rows .result) (c .same-rows .ensures)
+
+pub same-declaration-spec : {M : Type 1} → statement M
+same-declaration-spec =
+    tie.close
+    (tie.spec
+    same-record-requires
+    returns
+    first-row-requires
+    add-first-row
+    first-row-requires-2
+    same-rows-requires
+    returns-2)

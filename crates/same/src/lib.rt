@@ -1,0 +1,166 @@
+// The same-core question: whether two sources leave the same core, and otherwise where they part. Ours, beyond document 01.
+use loader::load;
+use scope::atom;
+use surface::Answer;
+use tables::clear_from;
+use tables::word_at;
+use token::Refusal;
+ghost use mathlib.Core.Path.{_≡_};
+ghost use Prim.Native.Nat.{_+_, _*_, _≤_, _<_};
+ghost use lib.ListN.{length};
+ghost use Rattle.tables.specs.Tables.{cleared};
+ghost use Rattle.loader.specs.Leaving.{lengths-of};
+ghost use Rattle.same.specs.Contents.{Decides, words-at, atom-at, first-row, last-row, SameRow, SameRows, SameRecord, SameDeclaration, FirstDifferent};
+ghost use Rattle.same.specs.Comparison.{tables, Asked};
+
+pub enum Comparison {
+    Same,
+    Different { declaration: usize },
+    FirstRefused(Refusal),
+    SecondRefused(Refusal),
+}
+
+// n words of two tables from one word on.
+fn same_words(a: &[u32], b: &[u32], from: usize, n: usize) -> bool
+    requires { ⌜ from + n ≤ 18446744073709551615 ⌝ }
+    ensures { λ r. ⌜ Decides r (words-at n (now (a .entry)) from ≡ words-at n (now (b .entry)) from) ⌝ }
+{
+    let mut i = 0;
+    while i < n {
+        if word_at(a, from + i) != word_at(b, from + i) {
+            return false;
+        }
+        i += 1;
+    }
+    true
+}
+
+// Two parts of the sources whose start and length stand at one word of two tables: a universe's digits, or a declaration's name.
+fn same_atom(s: &[u8], a: &[u32], t: &[u8], b: &[u32], from: usize) -> bool
+    requires { ⌜ from + 1 ≤ 18446744073709551615 ⌝ }
+    ensures { λ r. ⌜ Decides r (atom-at (now (s .entry)) (now (a .entry)) from ≡ atom-at (now (t .entry)) (now (b .entry)) from) ⌝ }
+{
+    let x = atom(s, word_at(a, from), word_at(a, from + 1));
+    let y = atom(t, word_at(b, from), word_at(b, from + 1));
+    words::same_bytes(x, y)
+}
+
+// Row i of two core tables, by what counts of it: a universe's digits do, their place in the source does not.
+fn same_row(s: &[u8], core1: &[u32], t: &[u8], core2: &[u32], i: usize) -> bool
+    requires { ⌜ i ≤ 4294967296 ⌝ }
+    ensures { λ r. ⌜ Decides r (SameRow (now (s .entry)) (now (core1 .entry)) (now (t .entry)) (now (core2 .entry)) i) ⌝ }
+{
+    let at = i * 8;
+    let kind = word_at(core1, at);
+    if kind != word_at(core2, at) {
+        return false;
+    }
+    if kind != 3 {
+        return same_words(core1, core2, at + 1, 7);
+    }
+    if !same_atom(s, core1, t, core2, at + 1) {
+        return false;
+    }
+    same_words(core1, core2, at + 3, 5)
+}
+
+// The rows from row `from` on and before row `to`.
+fn same_rows(s: &[u8], core1: &[u32], t: &[u8], core2: &[u32], from: usize, to: usize) -> bool
+    requires { ⌜ to ≤ 4294967296 ⌝ }
+    ensures { λ r. ⌜ Decides r (SameRows (now (s .entry)) (now (core1 .entry)) (now (t .entry)) (now (core2 .entry)) from to) ⌝ }
+{
+    let mut i = from;
+    while i < to {
+        if !same_row(s, core1, t, core2, i) {
+            return false;
+        }
+        i += 1;
+    }
+    true
+}
+
+// Record k of two declaration lists, by what counts of it: names are compared by bytes.
+fn same_record(s: &[u8], declarations1: &[u32], t: &[u8], declarations2: &[u32], k: usize) -> bool
+    requires { ⌜ k * 5 + 5 ≤ length (now declarations1) ⌝ }
+    ensures { λ r. ⌜ Decides r (SameRecord (now (s .entry)) (now (declarations1 .entry)) (now (t .entry)) (now (declarations2 .entry)) k) ⌝ }
+{
+    let at = k * 5;
+    if word_at(declarations1, at) != word_at(declarations2, at) {
+        return false;
+    }
+    if !same_atom(s, declarations1, t, declarations2, at + 1) {
+        return false;
+    }
+    same_words(declarations1, declarations2, at + 3, 2)
+}
+
+// A postulate, of kind 1, has no body.
+fn last_row(declarations: &[u32], k: usize) -> u32
+    requires { ⌜ k * 5 + 5 ≤ length (now declarations) ⌝ }
+    ensures { λ r. ⌜ r ≡ last-row (now (declarations .entry)) k ⌝ }
+{
+    let at = k * 5;
+    if word_at(declarations, at) == 1 {
+        return word_at(declarations, at + 3);
+    }
+    word_at(declarations, at + 4)
+}
+
+fn first_row(declarations: &[u32], k: usize) -> usize
+    requires { ⌜ k * 5 ≤ length (now declarations) ⌝ }
+    ensures { λ r. ⌜ (r ≡ first-row (now (declarations .entry)) k) × (r ≤ 4294967296) ⌝ }
+{
+    if k == 0 {
+        return 0;
+    }
+    let last = last_row(declarations, k - 1);
+    last as usize + 1
+}
+
+// Declaration k: its record, and its rows, which have the same numbers on both sides where the declarations before it are the same.
+fn same_declaration(
+    s: &[u8],
+    core1: &[u32],
+    declarations1: &[u32],
+    t: &[u8],
+    core2: &[u32],
+    declarations2: &[u32],
+    k: usize,
+) -> bool
+    requires { ⌜ k * 5 + 5 ≤ length (now declarations1) ⌝ }
+    ensures { λ r. ⌜ Decides r (SameDeclaration (now (s .entry)) (now (core1 .entry)) (now (declarations1 .entry)) (now (t .entry)) (now (core2 .entry)) (now (declarations2 .entry)) k) ⌝ }
+{
+    if !same_record(s, declarations1, t, declarations2, k) {
+        return false;
+    }
+    let from = first_row(declarations1, k);
+    let to = first_row(declarations1, k + 1);
+    same_rows(s, core1, t, core2, from, to)
+}
+
+// The place of the first declaration that is not the same in lists of m and n, or the shorter list's length.
+fn first_difference(
+    s: &[u8],
+    core1: &[u32],
+    declarations1: &[u32],
+    m: usize,
+    t: &[u8],
+    core2: &[u32],
+    declarations2: &[u32],
+    n: usize,
+) -> usize
+    requires { ⌜ m * 5 ≤ length (now declarations1) ⌝ }
+    ensures { λ r. ⌜ FirstDifferent (now (s .entry)) (now (core1 .entry)) (now (declarations1 .entry)) (now (t .entry)) (now (core2 .entry)) (now (declarations2 .entry)) m n r ⌝ }
+{
+    let mut k = 0;
+    while k < m {
+        if n <= k {
+            return k;
+        }
+        if !same_declaration(s, core1, declarations1, t, core2, declarations2, k) {
+            return k;
+        }
+        k += 1;
+    }
+    k
+}
