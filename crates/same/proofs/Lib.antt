@@ -1,3 +1,6 @@
 mod Words
 mod Contents
 mod Declarations
+mod Prefixes
+mod ModuleTables
+mod SameModules

@@ -7,6 +7,7 @@ use lib.Dec.{eqb}
 use lib.ListN.{getD}
 use Rattle.terms.specs.Label.{part}
 use Rattle.terms.specs.Content.{row-content, record-content}
+use Rattle.same.specs.declared.Comparison.{Comparison}
 
 -- The answer of a test, and what it is a test of.
 abbrev pub Decides : Bool → Type 0 → Type 0
@@ -69,3 +70,10 @@ module _ (s core₁ declarations₁ t core₂ declarations₂ : List ℕ) where
     pub within-second : k ≤ n
     pub before : SameBefore k
     pub there : k < m → k < n → ¬ SameBefore (suc k)
+
+  -- What comparing m and n declarations answers.
+  abbrev pub Compared : ℕ → ℕ → Comparison → Type 0
+  Compared m n Comparison.Same = (m ≡ n) × SameBefore m
+  Compared m n (Comparison.Different k) = FirstDifferent m n k × ¬ ((k ≡ m) × (k ≡ n))
+  Compared m n (Comparison.FirstRefused r) = ⊥
+  Compared m n (Comparison.SecondRefused r) = ⊥

@@ -10,7 +10,7 @@ ghost use Prim.Native.Nat.{_+_, _*_, _≤_, _<_};
 ghost use lib.ListN.{length};
 ghost use Rattle.tables.specs.Tables.{cleared};
 ghost use Rattle.loader.specs.Leaving.{lengths-of};
-ghost use Rattle.same.specs.Contents.{Decides, words-at, atom-at, first-row, last-row, SameRow, SameRows, SameRecord, SameDeclaration, FirstDifferent};
+ghost use Rattle.same.specs.Contents.{Decides, words-at, atom-at, first-row, last-row, SameRow, SameRows, SameRecord, SameDeclaration, FirstDifferent, Compared};
 ghost use Rattle.same.specs.Comparison.{tables, Asked};
 
 pub enum Comparison {
@@ -164,3 +164,38 @@ fn first_difference(
     }
     k
 }
+
+// Lists of m and n declarations are the same if all of the shorter one is, and the other has no more.
+fn compare(
+    s: &[u8],
+    core1: &[u32],
+    declarations1: &[u32],
+    m: usize,
+    t: &[u8],
+    core2: &[u32],
+    declarations2: &[u32],
+    n: usize,
+) -> Comparison
+    requires { ⌜ m * 5 ≤ length (now declarations1) ⌝ }
+    ensures { λ r. ⌜ Compared (now (s .entry)) (now (core1 .entry)) (now (declarations1 .entry)) (now (t .entry)) (now (core2 .entry)) (now (declarations2 .entry)) m n r ⌝ }
+{
+    let k = first_difference(s, core1, declarations1, m, t, core2, declarations2, n);
+    if k != m {
+        return Comparison::Different { declaration: k };
+    }
+    if k != n {
+        return Comparison::Different { declaration: k };
+    }
+    Comparison::Same
+}
+
+fn clear(surface: &mut [u32], core: &mut [u32], declarations: &mut [u32])
+    ensures { λ r. ⌜ now (surface .exit) ≡ cleared (now (surface .entry)) 0 ⌝ }
+    ensures { λ r. ⌜ now (core .exit) ≡ cleared (now (core .entry)) 0 ⌝ }
+    ensures { λ r. ⌜ now (declarations .exit) ≡ cleared (now (declarations .entry)) 0 ⌝ }
+{
+    clear_from(surface, 0);
+    clear_from(core, 0);
+    clear_from(declarations, 0);
+}
+
