@@ -1,6 +1,6 @@
 mod Parsing
 mod WellRead
-mod Cleared
+pub mod Cleared
 mod Fronts
 mod Resolving
 mod Stored

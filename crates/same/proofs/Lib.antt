@@ -4,3 +4,5 @@ mod Declarations
 mod Prefixes
 mod ModuleTables
 mod SameModules
+mod Loaded
+mod Asked

@@ -46,6 +46,12 @@ pub record Hold (s core declarations : List ℕ) (l : List NamedDeclaration) : T
   pub rows : (i : ℕ) → i < length (rows-of 0 (cores [] l)) → row-content s (row-at core i) ≡ getD (rows-of 0 (cores [] l)) i no-row
   pub records : (k : ℕ) → k < length l → record-content s (record-at declarations k) ≡ getD (records-of 0 (cores [] l)) k no-record
 
+-- As many declarations as first records.
+pub count-is : (s declarations : List ℕ) (l : List NamedDeclaration) (n : ℕ)
+    → map (record-content s) (first-rows 5 n declarations) ≡ records-of 0 (cores [] l) → length l ≡ n
+count-is s declarations l n f =
+    sym (length-records 0 [] l) ∙ ap length (sym f) ∙ length-map (first-rows 5 n declarations) (record-content s) ∙ length-first-rows 5 n declarations
+
 -- They do if their first rows and records have the module's contents.
 pub hold : (s core declarations : List ℕ) (l : List NamedDeclaration) (m n : ℕ)
     → map (row-content s) (first-rows 8 m core) ≡ rows-of 0 (cores [] l)
@@ -56,8 +62,7 @@ hold s core declarations l m n e f g h = record {
       let q : length (rows-of 0 (cores [] l)) ≡ m = ap length (sym e) ∙ length-map (first-rows 8 m core) (row-content s) ∙ length-first-rows 8 m core in
       content-at (row-content s) 8 m core i (omega arith) (omega arith) ∙ ap (λ (r : List RowContent). getD r i no-row) e;
   records = λ k p.
-      let q : length l ≡ n =
-      sym (length-records 0 [] l) ∙ ap length (sym f) ∙ length-map (first-rows 5 n declarations) (record-content s) ∙ length-first-rows 5 n declarations in
+      let q = count-is s declarations l n f in
       content-at (record-content s) 5 n declarations k (omega arith) (omega arith) ∙ ap (λ (r : List RecordContent). getD r k no-record) f;
 }
 

@@ -199,3 +199,41 @@ fn clear(surface: &mut [u32], core: &mut [u32], declarations: &mut [u32])
     clear_from(declarations, 0);
 }
 
+// Loads both sources and compares what they leave. A refusal of the first comes first; after a refusal both sets of tables are cleared.
+pub fn same(
+    first: &[u8],
+    second: &[u8],
+    surface1: &mut [u32],
+    core1: &mut [u32],
+    declarations1: &mut [u32],
+    surface2: &mut [u32],
+    core2: &mut [u32],
+    declarations2: &mut [u32],
+    work: &mut [u32],
+) -> Comparison
+    ensures { λ r. ⌜ Asked (now (first .entry)) (now (second .entry)) (lengths-of (now (surface1 .entry)) (now (core1 .entry)) (now (declarations1 .entry)) (now (work .entry))) (lengths-of (now (surface2 .entry)) (now (core2 .entry)) (now (declarations2 .entry)) (now (work .entry))) r (tables (now (surface1 .exit)) (now (core1 .exit)) (now (declarations1 .exit)) (now (work .exit))) (tables (now (surface2 .exit)) (now (core2 .exit)) (now (declarations2 .exit)) (now (work .exit))) ⌝ }
+{
+    let one = load(first, surface1, core1, declarations1, work);
+    match one {
+        Answer::Refused(refusal) => {
+            clear(surface2, core2, declarations2);
+            Comparison::FirstRefused(refusal)
+        }
+        Answer::Loaded {
+            rows: _,
+            declarations: m,
+        } => {
+            let other = load(second, surface2, core2, declarations2, work);
+            match other {
+                Answer::Refused(refusal) => {
+                    clear(surface1, core1, declarations1);
+                    Comparison::SecondRefused(refusal)
+                }
+                Answer::Loaded {
+                    rows: _,
+                    declarations: n,
+                } => compare(first, core1, declarations1, m, second, core2, declarations2, n),
+            }
+        }
+    }
+}
