@@ -1,11 +1,10 @@
 -- What a call of `same` promises, from what its calls of `load` leave. Assumes nothing.
 use Prim.Native.Nat.{ℕ}
-use mathlib.Core.Path.{_≡_, refl, sym, ap, ap₂, _∙_, subst, subst₂}
-use mathlib.Core.List.{List, [], map}
+use mathlib.Core.Path.{_≡_, refl, sym, ap, _∙_, subst₂}
+use mathlib.Core.List.{List, []}
 use lib.ListN.{length}
 use Rattle.token.specs.declared.Refusal.{Refusal}
 use Rattle.tables.specs.Tables.{cleared}
-use Rattle.terms.specs.Label.{named-declaration}
 use Rattle.terms.specs.Rows.{pad}
 use Rattle.surface.specs.declared.Answer.{Answer}
 use Rattle.surface.specs.Loading.{Lengths, Outcome, load}

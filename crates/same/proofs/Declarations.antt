@@ -8,7 +8,7 @@ use native.Mathlib.Omega.{arith}
 use native.Mathlib.Decide.{decLt}
 use native.Mathlib.Numerals.{add-one}
 use borrow.Author.Count.{below-more}
-use Rattle.same.specs.Contents.{Decides, first-row, SameRow, SameRows, SameRecord, SameDeclaration, SameBefore, FirstDifferent}
+use Rattle.same.specs.Contents.{Decides, first-row, SameRows, SameRecord, SameDeclaration, SameBefore, FirstDifferent}
 use Rattle.same.proofs.Contents.{decides, holds, fails}
 
 module _ (s core₁ declarations₁ t core₂ declarations₂ : List ℕ) where

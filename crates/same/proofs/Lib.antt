@@ -6,3 +6,4 @@ mod ModuleTables
 mod SameModules
 mod Loaded
 mod Asked
+pub mod Exactly

@@ -1,22 +1,21 @@
 -- The tables of a module, row by row and record by record, and of its first declarations. Assumes nothing.
 use Prim.Native.Nat.{ℕ, zero, suc, _+_, _*_, _≤_, _<_}
-use mathlib.Core.Path.{_≡_, refl, sym, ap, ap₂, _∙_, subst}
+use mathlib.Core.Path.{_≡_, refl, sym, ap, ap₂, _∙_}
 use mathlib.Core.List.{List, [], _∷_, map}
-use mathlib.Core.Bool.{Bool, true, cond}
+use mathlib.Core.Bool.{cond}
 use native.Mathlib.Omega.{arith}
 use native.Mathlib.Nat.{suc-mul, zero-mul, zero-add}
 use native.Mathlib.Numerals.{add-one}
 use lib.Dec.{eqb}
 use lib.ListN.{length, getD, take, drop, List·getD-append, List·getD-map, length-map, length-take, length-append}
-use lib.Seq.{drop-cons, drop-drop, getD-take, length-take-le, ext-getD}
+use lib.Seq.{drop-cons, drop-drop, getD-take}
 use Rattle.terms.specs.Label.{NamedDeclaration}
 use Rattle.terms.specs.Rows.{first-rows}
 use Rattle.terms.specs.Content.{RowContent, row-content, RecordContent, record-content}
 use Rattle.terms.proofs.Tables.{length-first-rows}
 use Rattle.terms.proofs.NamedModule.{ShapedModule, cores, rows-of, records-of}
-use Rattle.terms.proofs.SameContents.{SameContents}
-use Rattle.same.specs.Contents.{words-at, row-at, record-at, last-row, first-row, SameRow, SameRecord, SameBefore}
-use Rattle.same.proofs.Prefixes.{no-record, take-shaped, length-records, records-take, rows-split, last-of, last-rows}
+use Rattle.same.specs.Contents.{words-at, row-at, record-at, last-row, first-row}
+use Rattle.same.proofs.Prefixes.{no-record, length-records, records-take, rows-split, last-of, last-rows}
 
 abbrev pub no-row : RowContent
 no-row = record { kind = 0; digits = []; fields = [] }

@@ -1,9 +1,9 @@
 -- The first declarations of a module with names: they are a module, and their rows and records come first. Assumes nothing.
 use Prim.Native.Nat.{ℕ, zero, suc, _+_, _<_}
-use mathlib.Core.Path.{_≡_, refl, sym, ap, ap₂, _∙_}
+use mathlib.Core.Path.{_≡_, refl, sym, ap, _∙_}
 use mathlib.Core.Logic.{by-cases, if-pos, if-neg}
 use mathlib.Core.List.{List, [], _∷_, _++_, append-assoc, append-nil}
-use mathlib.Core.Bool.{Bool, true, _&&_, cond, and-eq-true-iff}
+use mathlib.Core.Bool.{Bool, true, cond, and-eq-true-iff}
 use native.Mathlib.Decide.{ℕ-discrete}
 use native.Mathlib.Omega.{arith}
 use lib.Dec.{eqb}
@@ -17,7 +17,7 @@ use Rattle.terms.specs.Content.{RowContent, RecordContent}
 use Rattle.terms.proofs.Cells.{next-cells}
 use Rattle.terms.proofs.NamedCore.{NamedCore, core, known, count-core}
 use Rattle.terms.proofs.CoreRows.{row, rows}
-use Rattle.terms.proofs.NamedModule.{parts, has, Shaped, ShapedModule, cores, new, resolves, resolves-cons, rows-of, records-of}
+use Rattle.terms.proofs.NamedModule.{parts, has, ShapedModule, cores, new, resolves, resolves-cons, rows-of, records-of}
 
 abbrev pub no-record : RecordContent
 no-record = record { kind = 0; name = []; rows = [] }

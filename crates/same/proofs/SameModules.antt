@@ -6,15 +6,15 @@ use mathlib.Core.Bool.{true}
 use native.Mathlib.Decide.{decLt}
 use native.Mathlib.Omega.{arith}
 use lib.ListN.{length, getD, take, length-take}
-use lib.Seq.{take-length, take-all, length-take-le, ext-getD}
+use lib.Seq.{take-length, length-take-le, ext-getD}
 use Rattle.terms.specs.Label.{NamedDeclaration}
 use Rattle.terms.specs.Content.{RowContent, RecordContent}
 use Rattle.terms.specs.Agreement.{AgreeModule}
-use Rattle.terms.proofs.NamedModule.{ShapedModule, cores, resolves, rows-of, records-of}
+use Rattle.terms.proofs.NamedModule.{ShapedModule, cores, resolves, rows-of}
 use Rattle.terms.proofs.SameContents.{SameContents, same-contents}
 use Rattle.same.specs.declared.Comparison.{Comparison}
 use Rattle.same.specs.Comparison.{PartAt}
-use Rattle.same.specs.Contents.{last-row, first-row, SameRow, SameRecord, SameBefore, FirstDifferent, Compared}
+use Rattle.same.specs.Contents.{first-row, SameRow, SameRecord, SameBefore, FirstDifferent, Compared}
 use Rattle.same.proofs.Prefixes.{no-record, take-shaped, take-resolves, length-records, last-of}
 use Rattle.same.proofs.ModuleTables.{no-row, Hold, hold-first, last-is, first-row-is}
 
@@ -56,11 +56,11 @@ module _ (s core₁ declarations₁ t core₂ declarations₂ : List ℕ) where
           let n : length (rows-of 0 (cores [] l)) ≡ length (rows-of 0 (cores [] m)) =
           sym (all-rows s core₁ declarations₁ l h) ∙ same-first (length l) (b .records) ∙ ap (first-row declarations₂) e ∙ all-rows t core₂ declarations₂ m j in
           ext-getD no-row _ _ n (λ i p.
-            sym (h .holds .rows i p) ∙ b .rows i (omega (arith, all-rows s core₁ declarations₁ l h)) (omega arith) ∙ j .holds .rows i (omega arith));
+          sym (h .holds .rows i p) ∙ b .rows i (omega (arith, all-rows s core₁ declarations₁ l h)) (omega arith) ∙ j .holds .rows i (omega arith));
       same-records =
           ext-getD no-record _ _ (length-records 0 [] l ∙ e ∙ sym (length-records 0 [] m)) (λ k p.
-            let q : k < length l = omega (arith, length-records 0 [] l) in
-            sym (h .holds .records k q) ∙ b .records k q ∙ j .holds .records k (omega arith));
+          let q : k < length l = omega (arith, length-records 0 [] l) in
+          sym (h .holds .records k q) ∙ b .records k q ∙ j .holds .records k (omega arith));
     }
 
     contents-from : length l ≡ length m → SameContents l m → Before (length l)

@@ -24,8 +24,8 @@ words-same zero a b i h = refl
 words-same (suc n) a b i h =
     let x : getD a i 0 ≡ getD b i 0 = ap (λ (k : ℕ). getD a k 0) (sym (add-zero i)) ∙ h 0 (omega arith) ∙ ap (λ (k : ℕ). getD b k 0) (add-zero i) in
     let y = words-same n a b (i + 1) (λ j p.
-      let e : i + 1 + j ≡ i + suc j = omega arith in
-      ap (λ (k : ℕ). getD a k 0) e ∙ h (suc j) (omega arith) ∙ ap (λ (k : ℕ). getD b k 0) (sym e)) in
+    let e : i + 1 + j ≡ i + suc j = omega arith in
+    ap (λ (k : ℕ). getD a k 0) e ∙ h (suc j) (omega arith) ∙ ap (λ (k : ℕ). getD b k 0) (sym e)) in
     λ k. x k ∷ y k
 
 pub words-differ : (n : ℕ) (a b : List ℕ) (i j : ℕ) → j < n → ¬ (getD a (i + j) 0 ≡ getD b (i + j) 0) → ¬ (words-at n a i ≡ words-at n b i)

@@ -232,7 +232,16 @@ pub fn same(
                 Answer::Loaded {
                     rows: _,
                     declarations: n,
-                } => compare(first, core1, declarations1, m, second, core2, declarations2, n),
+                } => compare(
+                    first,
+                    core1,
+                    declarations1,
+                    m,
+                    second,
+                    core2,
+                    declarations2,
+                    n,
+                ),
             }
         }
     }

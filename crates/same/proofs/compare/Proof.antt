@@ -4,9 +4,6 @@ use Rattle.same.specs.Contents.{SameBefore}
 use borrow.Author.Needs.{needs}
 use Rattle.same.proofs.compare.Statement.{statement}
 use Rattle.same.proofs.compare.Tie as tie
-use Rattle.same.proofs.compare.Reads as reads
-use Rattle.same.proofs.compare.Lts as lts
-use Rattle.same.proofs.first_difference.Reads as first-difference-reads
 
 first-difference-requires : tie.Need-first-difference-requires
 first-difference-requires c κs = search needs

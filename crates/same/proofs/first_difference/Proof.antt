@@ -2,15 +2,11 @@
 use Prim.Native.Nat.{_-_, _≤_}
 use mathlib.Core.Logic.{inl, inr}
 use native.Mathlib.Omega.{arith}
-use borrow.Author.Needs.{needs}
 use borrow.Author.Tests.{not-true, not-false}
 use Rattle.same.specs.Contents.{SameBefore}
 use Rattle.same.proofs.Declarations.{none-before, one-short, differs, goes-on}
 use Rattle.same.proofs.first_difference.Statement.{statement}
 use Rattle.same.proofs.first_difference.Tie as tie
-use Rattle.same.proofs.first_difference.Reads as reads
-use Rattle.same.proofs.first_difference.Lts as lts
-use Rattle.same.proofs.same_declaration.Reads as same-declaration-reads
 
 abbrev Inv-loop : tie.InvT-loop
 Inv-loop s core1 declarations1 m t core2 declarations2 n k₀ k = (k ≤ m) × (k ≤ n) × SameBefore s core1 declarations1 t core2 declarations2 k

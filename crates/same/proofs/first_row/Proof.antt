@@ -1,5 +1,5 @@
 -- `same::first_row` meets its contract. Assumes nothing.
-use mathlib.Core.Path.{_≡_, sym, _∙_, ap}
+use mathlib.Core.Path.{_≡_, _∙_, ap}
 use Prim.Native.Nat.{ℕ, suc, _+_, _-_}
 use native.Mathlib.Omega.{arith}
 use native.Mathlib.Numerals.{add-one}
@@ -7,9 +7,6 @@ use Rattle.same.specs.Contents.{first-row}
 use borrow.Author.Needs.{needs}
 use Rattle.same.proofs.first_row.Statement.{statement}
 use Rattle.same.proofs.first_row.Tie as tie
-use Rattle.same.proofs.first_row.Reads as reads
-use Rattle.same.proofs.first_row.Lts as lts
-use Rattle.same.proofs.last_row.Reads as last-row-reads
 
 returns : tie.Need-returns
 returns c = search needs

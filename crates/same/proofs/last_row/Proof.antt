@@ -7,9 +7,6 @@ use borrow.Author.Tests.{eq-eqb, ne-eqb}
 use borrow.Author.Needs.{needs}
 use Rattle.same.proofs.last_row.Statement.{statement}
 use Rattle.same.proofs.last_row.Tie as tie
-use Rattle.same.proofs.last_row.Reads as reads
-use Rattle.same.proofs.last_row.Lts as lts
-use Rattle.tables.proofs.word_at.Reads as word-at-reads
 
 mul-at : tie.Need-mul-at
 mul-at c = search needs

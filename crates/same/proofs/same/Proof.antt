@@ -3,11 +3,6 @@ use Rattle.same.proofs.Asked.{asked-first, asked-second, one-accepted, 
 use borrow.Author.Needs.{needs}
 use Rattle.same.proofs.same.Statement.{statement}
 use Rattle.same.proofs.same.Tie as tie
-use Rattle.same.proofs.same.Reads as reads
-use Rattle.same.proofs.same.Lts as lts
-use Rattle.loader.proofs.load.Reads as load-reads
-use Rattle.same.proofs.clear.Reads as clear-reads
-use Rattle.same.proofs.compare.Reads as compare-reads
 
 load-requires : tie.Need-load-requires
 load-requires c κs = search needs

@@ -1,17 +1,11 @@
 -- `same::same_atom` meets its contract. Assumes nothing.
 use mathlib.Core.Path.{_∙_, ap₂}
-use Prim.Native.Nat.{ℕ}
 use Rattle.terms.specs.Label.{part}
 use Rattle.words.specs.Words.{same-bytes}
 use Rattle.same.proofs.Words.{bytes-decide}
 use borrow.Author.Needs.{needs}
 use Rattle.same.proofs.same_atom.Statement.{statement}
 use Rattle.same.proofs.same_atom.Tie as tie
-use Rattle.same.proofs.same_atom.Reads as reads
-use Rattle.same.proofs.same_atom.Lts as lts
-use Rattle.scope.proofs.atom.Reads as atom-reads
-use Rattle.tables.proofs.word_at.Reads as word-at-reads
-use Rattle.words.proofs.same_bytes.Reads as same-bytes-reads
 
 word-at-requires : tie.Need-word-at-requires
 word-at-requires c κs = search needs

@@ -4,11 +4,6 @@ use Rattle.same.proofs.Declarations.{declaration-no, declaration-by-row
 use borrow.Author.Needs.{needs}
 use Rattle.same.proofs.same_declaration.Statement.{statement}
 use Rattle.same.proofs.same_declaration.Tie as tie
-use Rattle.same.proofs.same_declaration.Reads as reads
-use Rattle.same.proofs.same_declaration.Lts as lts
-use Rattle.same.proofs.first_row.Reads as first-row-reads
-use Rattle.same.proofs.same_record.Reads as same-record-reads
-use Rattle.same.proofs.same_rows.Reads as same-rows-reads
 
 same-record-requires : tie.Need-same-record-requires
 same-record-requires c κs = search needs

@@ -5,11 +5,6 @@ use Rattle.same.proofs.Contents.{record-kinds, record-names, record-row
 use borrow.Author.Needs.{needs}
 use Rattle.same.proofs.same_record.Statement.{statement}
 use Rattle.same.proofs.same_record.Tie as tie
-use Rattle.same.proofs.same_record.Reads as reads
-use Rattle.same.proofs.same_record.Lts as lts
-use Rattle.same.proofs.same_atom.Reads as same-atom-reads
-use Rattle.same.proofs.same_words.Reads as same-words-reads
-use Rattle.tables.proofs.word_at.Reads as word-at-reads
 
 mul-at : tie.Need-mul-at
 mul-at c = search needs

@@ -5,11 +5,6 @@ use Rattle.same.proofs.Contents.{row-kinds, row-plain, row-digits, row-
 use borrow.Author.Needs.{needs}
 use Rattle.same.proofs.same_row.Statement.{statement}
 use Rattle.same.proofs.same_row.Tie as tie
-use Rattle.same.proofs.same_row.Reads as reads
-use Rattle.same.proofs.same_row.Lts as lts
-use Rattle.same.proofs.same_atom.Reads as same-atom-reads
-use Rattle.same.proofs.same_words.Reads as same-words-reads
-use Rattle.tables.proofs.word_at.Reads as word-at-reads
 
 mul-at : tie.Need-mul-at
 mul-at c = search needs

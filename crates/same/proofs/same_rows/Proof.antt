@@ -2,15 +2,12 @@
 use borrow.Author.Count.{below-more}
 use borrow.Author.Tests.{not-true, not-false}
 use Rattle.same.proofs.Contents.{holds, fails}
-use Prim.Native.Nat.{ℕ, _-_, _<_, _≤_}
+use Prim.Native.Nat.{_-_, _≤_}
 use native.Mathlib.Omega.{arith}
 use borrow.Author.Needs.{needs}
 use Rattle.same.specs.Contents.{SameRow, SameRows}
 use Rattle.same.proofs.same_rows.Statement.{statement}
 use Rattle.same.proofs.same_rows.Tie as tie
-use Rattle.same.proofs.same_rows.Reads as reads
-use Rattle.same.proofs.same_rows.Lts as lts
-use Rattle.same.proofs.same_row.Reads as same-row-reads
 
 abbrev Inv-loop : tie.InvT-loop
 Inv-loop s core1 t core2 from to i₀ i = SameRows s core1 t core2 from i × (from ≤ i)

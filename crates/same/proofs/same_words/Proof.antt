@@ -8,9 +8,6 @@ use borrow.Author.Needs.{needs}
 use Rattle.same.proofs.Words.{words-same, words-differ}
 use Rattle.same.proofs.same_words.Statement.{statement}
 use Rattle.same.proofs.same_words.Tie as tie
-use Rattle.same.proofs.same_words.Reads as reads
-use Rattle.same.proofs.same_words.Lts as lts
-use Rattle.tables.proofs.word_at.Reads as word-at-reads
 
 abbrev Inv-loop : tie.InvT-loop
 Inv-loop a b from n i₀ i = (i ≤ n) × ((j : ℕ) → j < i → getD a (from + j) 0 ≡ getD b (from + j) 0)
