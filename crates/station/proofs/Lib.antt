@@ -1,1 +1,2 @@
 mod Three
+mod Telling

@@ -1,13 +1,15 @@
 // The loader for stations to link: `rt staticlib station`, with include/sulyterom.h for C. Slices pass as a pointer and a length.
 use surface::Answer;
+use surface::Dependence;
 use token::Place;
 ghost use mathlib.Core.Path.{_≡_};
 ghost use mathlib.Core.List.{[], _∷_};
 ghost use Rattle.surface.specs.Loading.{load, offsets};
+ghost use Rattle.surface.specs.Dependence.{ask};
 ghost use Rattle.loader.specs.Leaving.{lengths-of, leaving};
 ghost use Rattle.terms.specs.Rows.{pad};
 ghost use lib.ListN.{length};
-ghost use Rattle.station.specs.Numbers.{class-number, answer-words, told};
+ghost use Rattle.station.specs.Numbers.{class-number, answer-words, dependence-class, dependence-words, told, Tells};
 
 fn class_number(answer: Answer) -> u8
     ensures { λ r. ⌜ r ≡ class-number answer ⌝ }
@@ -72,4 +74,49 @@ pub extern "C" fn sulyterom_load(
     let words = answer_words(loaded);
     tell(answer, words);
     class_number(loaded)
+}
+
+fn dependence_class(answer: Dependence) -> u8
+    ensures { λ r. ⌜ r ≡ dependence-class answer ⌝ }
+{
+    match answer {
+        Dependence::Yes { row: _ } => 0,
+        Dependence::No => 0,
+        Dependence::Refused(refusal) => refusal.class,
+    }
+}
+
+fn dependence_words(answer: Dependence) -> [u64; 3]
+    ensures { λ r. ⌜ r ≡ dependence-words answer ⌝ }
+{
+    match answer {
+        Dependence::Yes { row } => [1, row as u64, 0],
+        Dependence::No => [0, 0, 0],
+        Dependence::Refused(refusal) => {
+            let place = refusal.place;
+            place_words(place)
+        }
+    }
+}
+
+// Whether declaration i depends on j. Answers 0 for yes and no, else the class; `answer`, if it has room for three numbers, gets 1 and the row for a yes, 0 for a no,
+// and for a refusal what `sulyterom_load` gives.
+#[no_mangle]
+pub extern "C" fn sulyterom_depends(
+    source: &[u8],
+    i: usize,
+    j: usize,
+    surface: &mut [u32],
+    core: &mut [u32],
+    declarations: &mut [u32],
+    work: &mut [u32],
+    answer: &mut [u64],
+) -> u8
+    ensures { λ r. ⌜ Tells (now (source .entry)) (lengths-of (now (surface .entry)) (now (core .entry)) (now (declarations .entry)) (now (work .entry))) i j r (now (answer .entry)) (now (answer .exit)) ⌝ }
+    ensures { λ r. ⌜ leaving (ask (now (source .entry)) (lengths-of (now (surface .entry)) (now (core .entry)) (now (declarations .entry)) (now (work .entry))) i j .answer) (now (surface .exit)) (now (core .exit)) (now (declarations .exit)) (now (work .exit)) ≡ ask (now (source .entry)) (lengths-of (now (surface .entry)) (now (core .entry)) (now (declarations .entry)) (now (work .entry))) i j ⌝ }
+{
+    let asked = depends::depends(source, i, j, surface, core, declarations, work);
+    let words = dependence_words(asked);
+    tell(answer, words);
+    dependence_class(asked)
 }

@@ -1,0 +1,104 @@
+-- What the question answers and leaves, from what loading leaves. Assumes nothing.
+use mathlib.Core.Path.{_≡_, refl, sym, ap, _∙_, subst}
+use mathlib.Core.Bool.{Bool, true, false, _&&_, and-eq-true-iff}
+use mathlib.Core.List.{List, []}
+use Prim.Native.Nat.{ℕ, _<_}
+use native.Mathlib.Omega.{arith}
+use lib.Dec.{ltb}
+use borrow.Author.Tests.{ltb-true}
+use lib.ListN.{length}
+use Rattle.token.specs.declared.Refusal.{Refusal}
+use Rattle.terms.specs.Label.{Declaration}
+use Rattle.terms.specs.Rows.{pad}
+use Rattle.terms.proofs.Tables.{length-pad}
+use Rattle.tables.specs.Tables.{cleared}
+use Rattle.surface.specs.declared.Answer.{Answer}
+use Rattle.surface.specs.declared.Dependence.{Dependence}
+use Rattle.surface.specs.Reader.{Position, start, Result, done, refused, after, require, nowhere}
+use Rattle.surface.specs.Loading.{Lengths, loading, Outcome, outcome, load}
+use Rattle.surface.specs.Dependence.{asking, ask, Answers}
+use Rattle.loader.specs.Leaving.{leaving}
+use Rattle.loader.proofs.Cleared.{cleared-whole}
+use Rattle.depends.specs.Search.{mention}
+use Rattle.depends.proofs.Mentions.{mentioned}
+
+module _ (s : List ℕ) (z : Lengths) (i j : ℕ) where
+  asked-refused : (r : Refusal) → loading s z start ≡ refused r → asking s z i j start ≡ refused r
+  unfolding asking
+  asked-refused r e = ap (λ (x : Result (List Declaration)). after x (λ ds. λ p. after (require (ltb i (length ds) && ltb j (length ds)) (nowhere 12) p) (λ _. λ p. done ds p))) e
+
+  module _ (ds : List Declaration) (q : Position) (e : loading s z start ≡ done ds q) where
+    asked : asking s z i j start ≡ after (require (ltb i (length ds) && ltb j (length ds)) (nowhere 12) q) (λ _. λ p. done ds p)
+    unfolding asking
+    asked = ap (λ (x : Result (List Declaration)). after x (λ ds. λ p. after (require (ltb i (length ds) && ltb j (length ds)) (nowhere 12) p) (λ _. λ p. done ds p))) e
+
+    asked-inside : ltb i (length ds) && ltb j (length ds) ≡ true → asking s z i j start ≡ done ds q
+    asked-inside h = asked ∙ ap (λ (b : Bool). after (require b (nowhere 12) q) (λ _. λ p. done ds p)) h
+
+    asked-outside : ltb i (length ds) && ltb j (length ds) ≡ false → asking s z i j start ≡ refused (nowhere 12)
+    asked-outside h = asked ∙ ap (λ (b : Bool). after (require b (nowhere 12) q) (λ _. λ p. done ds p)) h
+
+  -- What is promised of a call that answers a and leaves some tables.
+  pub record Asked (a : Dependence) (surface core declarations work : List ℕ) : Type 0 where
+    pub answers : Answers s i j (asking s z i j start) a
+    pub leaves : leaving (ask s z i j .answer) surface core declarations work ≡ ask s z i j
+
+  promised : (o : Result (List Declaration)) (a : Dependence) (x : Outcome) → asking s z i j start ≡ o → Answers s i j o a → x ≡ outcome s z o
+      → Asked a (x .surface) (x .core) (x .declarations) (x .work)
+  unfolding ask
+  promised o a x e h f =
+      let g : x ≡ outcome s z (asking s z i j start) = f ∙ ap (outcome s z) (sym e) in
+      record {
+        answers = subst (λ (o : Result (List Declaration)). Answers s i j o a) (sym e) h;
+        leaves = λ k. leaving (outcome s z (asking s z i j start) .answer) (g k .surface) (g k .core) (g k .declarations) (g k .work);
+      }
+
+  module _ (r : Answer) (surface core declarations work : List ℕ) (l : leaving r surface core declarations work ≡ load s z) where
+    -- Loading refuses.
+    pub ask-refused : (x : Refusal) → r ≡ Answer.Refused x → Asked (Dependence.Refused x) surface core declarations work
+    unfolding load
+    ask-refused x e = by (loading s z start) refl l
+      where
+        by : (o : Result (List Declaration)) → loading s z start ≡ o → leaving r surface core declarations work ≡ outcome s z o → Asked (Dependence.Refused x) surface core declarations work
+        by (refused y) f h =
+            let a : r ≡ Answer.Refused y = ap (λ (o : Outcome). o .answer) h in
+            let g : x ≡ y = cc in
+            promised (refused y) (Dependence.Refused x) (leaving r surface core declarations work) (asked-refused y f) g h
+        by (done ds q) f h = absurd (let a : r ≡ Answer.Loaded (q .rows) (length ds) = ap (λ (o : Outcome). o .answer) h in let z : _≡_ {A = ℕ} 0 1 = cc in omega arith)
+
+    module _ (rows count : ℕ) (e : r ≡ Answer.Loaded rows count) where
+      -- Both places are declarations.
+      pub ask-inside : ltb i count && ltb j count ≡ true → Asked (mention core declarations i j) surface core declarations work
+      unfolding load
+      ask-inside t = by (loading s z start) refl l
+        where
+          by : (o : Result (List Declaration)) → loading s z start ≡ o → leaving r surface core declarations work ≡ outcome s z o → Asked (mention core declarations i j) surface core declarations work
+          by (refused y) f h = absurd (let a : r ≡ Answer.Refused y = ap (λ (o : Outcome). o .answer) h in let z : _≡_ {A = ℕ} 0 1 = cc in omega arith)
+          by (done ds q) f h =
+              let a : r ≡ Answer.Loaded (q .rows) (length ds) = ap (λ (o : Outcome). o .answer) h in
+              let n : count ≡ length ds = cc in
+              let u = subst (λ (n : ℕ). ltb i n && ltb j n ≡ true) n t in
+              let v : i < length ds = ltb-true i (length ds) (and-eq-true-iff (ltb i (length ds)) _ .0 u .0) in
+              let w = mentioned s z ds q f i j v in
+              promised (done ds q) (mention core declarations i j) (leaving r surface core declarations work) (asked-inside ds q f u)
+              (subst (λ (o : Outcome). Answers s i j (done ds q) (mention (o .core) (o .declarations) i j)) (sym h) w) h
+
+      -- One of them is none: "12 dependence asked of a place that is no declaration, nowhere, after loading", and every table is cleared.
+      pub ask-outside : ltb i count && ltb j count ≡ false → Asked (Dependence.Refused (nowhere 12)) (cleared surface 0) (cleared core 0) (cleared declarations 0) (cleared work 0)
+      unfolding load
+      ask-outside t = by (loading s z start) refl l
+        where
+          by : (o : Result (List Declaration)) → loading s z start ≡ o → leaving r surface core declarations work ≡ outcome s z o → Asked (Dependence.Refused (nowhere 12)) (cleared surface 0) (cleared core 0) (cleared declarations 0) (cleared work 0)
+          by (refused y) f h = absurd (let a : r ≡ Answer.Refused y = ap (λ (o : Outcome). o .answer) h in let z : _≡_ {A = ℕ} 0 1 = cc in omega arith)
+          by (done ds q) f h =
+              let a : r ≡ Answer.Loaded (q .rows) (length ds) = ap (λ (o : Outcome). o .answer) h in
+              let n : count ≡ length ds = cc in
+              let u = subst (λ (n : ℕ). ltb i n && ltb j n ≡ false) n t in
+              let clears : (t : List ℕ) (n : ℕ) (x : List ℕ) → t ≡ pad n x → cleared t 0 ≡ pad n [] = λ t n x e. cleared-whole t ∙ ap (λ (m : ℕ). pad m []) (ap length e ∙ length-pad n x) in
+              let b = clears surface (z .surface) _ (ap (λ (o : Outcome). o .surface) h) in
+              let c = clears core (z .core) _ (ap (λ (o : Outcome). o .core) h) in
+              let d = clears declarations (z .declarations) _ (ap (λ (o : Outcome). o .declarations) h) in
+              let g = clears work (z .work) _ (ap (λ (o : Outcome). o .work) h) in
+              promised (refused (nowhere 12)) (Dependence.Refused (nowhere 12))
+              (leaving (Answer.Refused (nowhere 12)) (cleared surface 0) (cleared core 0) (cleared declarations 0) (cleared work 0)) (asked-outside ds q f u) refl
+              (λ k. leaving (Answer.Refused (nowhere 12)) (b k) (c k) (d k) (g k))

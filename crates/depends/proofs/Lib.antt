@@ -1,0 +1,4 @@
+pub mod Searching
+pub mod Ranges
+pub mod Mentions
+pub mod Asking

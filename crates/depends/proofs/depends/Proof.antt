@@ -1,0 +1,126 @@
+-- `depends::depends` meets its contract. Assumes nothing.
+use mathlib.Core.Path.{sym, _∙_, subst}
+use Rattle.token.specs.declared.Refusal.{Refusal}
+use Rattle.surface.specs.declared.Dependence.{Dependence}
+use Rattle.surface.specs.Reader.{start}
+use Rattle.surface.specs.Dependence.{asking, ask, Answers}
+use Rattle.loader.specs.Leaving.{lengths-of, leaving}
+use Rattle.depends.proofs.Asking.{ask-refused, ask-inside, ask-outside}
+use borrow.Author.Needs.{needs}
+use Rattle.depends.proofs.depends.Statement.{statement}
+use Rattle.depends.proofs.depends.Tie as tie
+
+load-requires : tie.Need-load-requires
+load-requires c κs = search needs
+
+enum-known-loaded : tie.Need-enum-known-loaded
+enum-known-loaded c = search needs
+
+refused-by-loading-requires : tie.Need-refused-by-loading-requires
+refused-by-loading-requires c κs = search needs
+
+enum-known-loaded-2 : tie.Need-enum-known-loaded-2
+enum-known-loaded-2 c = search needs
+
+are-places-requires : tie.Need-are-places-requires
+are-places-requires c κs = search needs
+
+find-mention-requires : tie.Need-find-mention-requires
+find-mention-requires c κs = search needs
+
+same-length : tie.Need-same-length
+same-length c = search needs
+
+same-length-2 : tie.Need-same-length-2
+same-length-2 c = search needs
+
+same-length-3 : tie.Need-same-length-3
+same-length-3 c = search needs
+
+same-length-4 : tie.Need-same-length-4
+same-length-4 c = search needs
+
+returns : tie.Need-returns
+returns c =
+    let a = c .before .before .before .before .before .before .before .before .before .before .before .before .before .before .before .before .before .before .before .before .before .before .before .before .before .before .args in
+    let k = c .before .before .before .before .before .before .before .before .before .before .before .before .before .before .before .before .load in
+    let m = c .before .before .before .before .before .before .loaded2 .given in
+    let w = ask-inside (a .s .now) (lengths-of (a .surface .now) (a .core .now) (a .declarations .now) (a .work .now)) (a .i) (a .j) (k .result) (k .last .1 .0) (k .last .1 .1 .0) (k .last .1 .1 .1 .0) (k .last .1 .1 .1 .1 .0) (k .ensures) (m .0 .0) (m .0 .1 .0) (m .1) (sym (c .before .before .before .before .are-places .ensures) ∙ search needs) in
+    (subst (Answers (a .s .now) (a .i) (a .j) (asking (a .s .now) (lengths-of (a .surface .now) (a .core .now) (a .declarations .now) (a .work .now)) (a .i) (a .j) start)) (sym (c .find-mention .ensures)) (w .answers), w .leaves)
+
+clear-all-requires : tie.Need-clear-all-requires
+clear-all-requires c κs = search needs
+
+nowhere-12-requires : tie.Need-nowhere-12-requires
+nowhere-12-requires c κs = search needs
+
+same-length-5 : tie.Need-same-length-5
+same-length-5 c = search needs
+
+same-length-6 : tie.Need-same-length-6
+same-length-6 c = search needs
+
+same-length-7 : tie.Need-same-length-7
+same-length-7 c = search needs
+
+same-length-8 : tie.Need-same-length-8
+same-length-8 c = search needs
+
+returns-2 : tie.Need-returns-2
+returns-2 c =
+    let a = c .before .before .before .before .before .before .before .before .before .before .before .before .before .before .before .before .before .before .before .before .before .before .args in
+    let k = c .before .before .before .before .before .before .before .before .before .before .before .before .load in
+    let m = c .before .before .loaded .given in
+    let w = ask-refused (a .s .now) (lengths-of (a .surface .now) (a .core .now) (a .declarations .now) (a .work .now)) (a .i) (a .j) (k .result) (k .last .1 .0) (k .last .1 .1 .0) (k .last .1 .1 .1 .0) (k .last .1 .1 .1 .1 .0) (k .ensures) (m .0 .0) (m .1) in
+    (subst (Answers (a .s .now) (a .i) (a .j) (asking (a .s .now) (lengths-of (a .surface .now) (a .core .now) (a .declarations .now) (a .work .now)) (a .i) (a .j) start)) (sym (c .refused-by-loading .ensures)) (w .answers), w .leaves)
+
+same-length-9 : tie.Need-same-length-9
+same-length-9 c = search needs
+
+same-length-10 : tie.Need-same-length-10
+same-length-10 c = search needs
+
+same-length-11 : tie.Need-same-length-11
+same-length-11 c = search needs
+
+same-length-12 : tie.Need-same-length-12
+same-length-12 c = search needs
+
+returns-3 : tie.Need-returns-3
+returns-3 c =
+    let a = c .before .before .before .before .before .before .before .before .before .before .before .before .before .before .before .before .before .before .before .before .before .before .before .before .before .before .before .before .before .before .before .before .before .before .before .before .before .args in
+    let k = c .before .before .before .before .before .before .before .before .before .before .before .before .before .before .before .before .before .before .before .before .before .before .before .before .before .before .before .load in
+    let m = c .before .before .before .before .before .before .before .before .before .before .before .before .before .before .before .before .before .loaded2 .given in
+    let z = c .before .before .before .before .before .before .before .before .before .clear-all .ensures in
+    let w = ask-outside (a .s .now) (lengths-of (a .surface .now) (a .core .now) (a .declarations .now) (a .work .now)) (a .i) (a .j) (k .result) (k .last .1 .0) (k .last .1 .1 .0) (k .last .1 .1 .1 .0) (k .last .1 .1 .1 .1 .0) (k .ensures) (m .0 .0) (m .0 .1 .0) (m .1) (sym (c .before .before .before .before .before .before .before .before .before .before .before .before .before .before .before .are-places .ensures) ∙ search needs) in (
+      subst (λ (r : Refusal). Answers (a .s .now) (a .i) (a .j) (asking (a .s .now) (lengths-of (a .surface .now) (a .core .now) (a .declarations .now) (a .work .now)) (a .i) (a .j) start) (Dependence.Refused r)) (sym (c .nowhere-12 .ensures)) (w .answers),
+      (λ x. leaving (ask (a .s .now) (lengths-of (a .surface .now) (a .core .now) (a .declarations .now) (a .work .now)) (a .i) (a .j) .answer) (z .0 x) (z .1 .0 x) (z .1 .1 .0 x) (z .1 .1 .1 x)) ∙ w .leaves,
+    )
+
+pub depends-spec : {M : Type 1} → statement M
+depends-spec =
+    tie.close
+    (tie.spec
+    load-requires
+    enum-known-loaded
+    refused-by-loading-requires
+    enum-known-loaded-2
+    are-places-requires
+    find-mention-requires
+    same-length
+    same-length-2
+    same-length-3
+    same-length-4
+    returns
+    clear-all-requires
+    nowhere-12-requires
+    same-length-5
+    same-length-6
+    same-length-7
+    same-length-8
+    returns-2
+    same-length-9
+    same-length-10
+    same-length-11
+    same-length-12
+    returns-3)

@@ -1,0 +1,146 @@
+// The dependence question of document 01: a source is loaded, and the rows of one declaration are searched for a global row of another.
+use surface::Answer;
+use surface::Dependence;
+use tables::clear_from;
+use tables::word_at;
+use token::Place;
+use token::Refusal;
+ghost use mathlib.Core.Path.{_≡_};
+ghost use mathlib.Core.Bool.{_&&_};
+ghost use lib.Dec.{ltb};
+ghost use Prim.Native.Nat.{_-_};
+ghost use Rattle.tables.specs.Tables.{cleared};
+ghost use Rattle.surface.specs.Reader.{start, nowhere};
+ghost use Rattle.surface.specs.declared.Dependence as Dependence;
+ghost use Rattle.surface.specs.Dependence.{asking, ask, Answers};
+ghost use Rattle.loader.specs.Leaving.{lengths-of, leaving};
+ghost use Rattle.depends.specs.Search.{global-at, row-behind, first-row, first-global, mention};
+
+// Whether row k is a global row j. Behind the table there is none.
+fn is_global(core: &[u32], k: usize, j: usize) -> bool
+    ensures { λ r. ⌜ r ≡ global-at (now (core .entry)) j k ⌝ }
+{
+    if core.len() / 8 < k {
+        return false;
+    }
+    let kind = word_at(core, k * 8);
+    let place = word_at(core, k * 8 + 1);
+    if kind != 2 {
+        return false;
+    }
+    place as usize == j
+}
+
+// The first row from row `from` up to row `to` that is a global row j.
+fn find_global(core: &[u32], from: usize, to: usize, j: usize) -> Dependence
+    ensures { λ r. ⌜ r ≡ first-global (now (core .entry)) j (to - from) from ⌝ }
+{
+    let mut k = from;
+    while k < to {
+        if is_global(core, k, j) {
+            return Dependence::Yes { row: k };
+        }
+        k += 1;
+    }
+    Dependence::No
+}
+
+// The row behind those of declaration i. Its body's row is its last, or its type's where there is no body, whose row is then 0.
+fn row_behind(declarations: &[u32], i: usize) -> usize
+    ensures { λ r. ⌜ r ≡ row-behind (now (declarations .entry)) i ⌝ }
+{
+    if declarations.len() / 5 < i {
+        return 1;
+    }
+    let type_row = word_at(declarations, i * 5 + 3);
+    let body_row = word_at(declarations, i * 5 + 4);
+    if type_row < body_row {
+        return body_row as usize + 1;
+    }
+    type_row as usize + 1
+}
+
+fn first_row(declarations: &[u32], i: usize) -> usize
+    ensures { λ r. ⌜ r ≡ first-row (now (declarations .entry)) i ⌝ }
+{
+    if i == 0 {
+        return 0;
+    }
+    row_behind(declarations, i - 1)
+}
+
+// A row of declaration i that is a global row j.
+fn find_mention(core: &[u32], declarations: &[u32], i: usize, j: usize) -> Dependence
+    ensures { λ r. ⌜ r ≡ mention (now (core .entry)) (now (declarations .entry)) i j ⌝ }
+{
+    let from = first_row(declarations, i);
+    let to = row_behind(declarations, i);
+    find_global(core, from, to, j)
+}
+
+// Whether i and j are both places of a list of so many declarations.
+fn are_places(i: usize, j: usize, count: usize) -> bool
+    ensures { λ r. ⌜ r ≡ ltb i count && ltb j count ⌝ }
+{
+    if i < count {
+        return j < count;
+    }
+    false
+}
+
+// Loading's own refusal comes before 12.
+fn refused_by_loading(refusal: Refusal) -> Dependence
+    ensures { λ r. ⌜ r ≡ Dependence.Refused refusal ⌝ }
+{
+    Dependence::Refused(refusal)
+}
+
+fn nowhere_12() -> Refusal
+    ensures { λ r. ⌜ r ≡ nowhere 12 ⌝ }
+{
+    Refusal {
+        class: 12,
+        place: Place::Nowhere,
+    }
+}
+
+fn clear_all(surface: &mut [u32], core: &mut [u32], declarations: &mut [u32], work: &mut [u32])
+    ensures { λ r. ⌜ now (surface .exit) ≡ cleared (now (surface .entry)) 0 ⌝ }
+    ensures { λ r. ⌜ now (core .exit) ≡ cleared (now (core .entry)) 0 ⌝ }
+    ensures { λ r. ⌜ now (declarations .exit) ≡ cleared (now (declarations .entry)) 0 ⌝ }
+    ensures { λ r. ⌜ now (work .exit) ≡ cleared (now (work .entry)) 0 ⌝ }
+{
+    clear_from(surface, 0);
+    clear_from(core, 0);
+    clear_from(declarations, 0);
+    clear_from(work, 0);
+}
+
+// Whether declaration i depends on j. A yes or a no leaves the tables as loading does, a refusal leaves 0 in all of them.
+pub fn depends(
+    s: &[u8],
+    i: usize,
+    j: usize,
+    surface: &mut [u32],
+    core: &mut [u32],
+    declarations: &mut [u32],
+    work: &mut [u32],
+) -> Dependence
+    ensures { λ r. ⌜ Answers (now (s .entry)) i j (asking (now (s .entry)) (lengths-of (now (surface .entry)) (now (core .entry)) (now (declarations .entry)) (now (work .entry))) i j start) r ⌝ }
+    ensures { λ r. ⌜ leaving (ask (now (s .entry)) (lengths-of (now (surface .entry)) (now (core .entry)) (now (declarations .entry)) (now (work .entry))) i j .answer) (now (surface .exit)) (now (core .exit)) (now (declarations .exit)) (now (work .exit)) ≡ ask (now (s .entry)) (lengths-of (now (surface .entry)) (now (core .entry)) (now (declarations .entry)) (now (work .entry))) i j ⌝ }
+{
+    let loaded = loader::load(s, surface, core, declarations, work);
+    match loaded {
+        Answer::Refused(refusal) => refused_by_loading(refusal),
+        Answer::Loaded {
+            rows: _,
+            declarations: count,
+        } => {
+            if are_places(i, j, count) {
+                return find_mention(core, declarations, i, j);
+            }
+            clear_all(surface, core, declarations, work);
+            Dependence::Refused(nowhere_12())
+        }
+    }
+}
