@@ -8,7 +8,7 @@ use Rattle.same.specs.declared.Comparison.{Comparison}
 use Rattle.same.specs.Comparison.{Answers, Tables, Asked}
 use Rattle.text.specs.Text.{with-text, length-in}
 use Rattle.text.proofs.Writing.{Put, put-behind}
-use Rattle.same_main.specs.Program.{lent, comparison-line, Written}
+use Rattle.comparison.specs.Program.{lent, comparison-line, Written}
 
 -- t is the line of the answer a, which is c.
 pub line-put : (out t now : List ℕ) (at : ℕ) (c a : Comparison) → c ≡ a → comparison-line a ≡ t → Put out 0 t now at

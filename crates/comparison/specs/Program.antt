@@ -10,10 +10,9 @@ use Rattle.same.specs.Comparison.{Answers}
 use Rattle.text.specs.Text.{decimal, with-text, length-in}
 use Rattle.lines.specs.Listing.{line, refusal-line}
 
--- Ours: 22,000 rows for each row table, 4,000 declarations and a work area of 16,384 words. A row takes at least 3 bytes of a source and
--- a declaration 17, so every source of 65,535 bytes fits.
+-- Ours: for each source 21,845 rows to each row table and 3,855 declarations, and a work area of 16,384 words.
 abbrev pub lent : Lengths
-lent = record { surface = 176000; core = 176000; declarations = 20000; work = 16384 }
+lent = record { surface = 174760; core = 174760; declarations = 19275; work = 16384 }
 
 -- Ours: `same`, `different at declaration K`, `first refused C at P`, `second refused C`; a refusal is worded as in the listing.
 unfoldable pub comparison-line : Comparison → List ℕ

@@ -1,4 +1,5 @@
-// Whether two sources leave the same core: reads the files that its two arguments name and prints one line.
+// The same-core question at a terminal: the first source on standard input, the second on descriptor 3.
+use libc::STDIN_FILENO;
 use libc::STDOUT_FILENO;
 use same::Comparison;
 use text::put;
@@ -7,7 +8,7 @@ use text::put_decimal;
 ghost use mathlib.Core.Path.{_≡_};
 ghost use lib.ListN.{length};
 ghost use Rattle.text.specs.Text.{with-text, length-in};
-ghost use Rattle.same_main.specs.Program.{comparison-line, Written};
+ghost use Rattle.comparison.specs.Program.{comparison-line, Written};
 
 fn put_comparison(comparison: Comparison, text: &mut [u8]) -> usize
     ensures { λ r. ⌜ now (text .exit) ≡ with-text (now (text .entry)) (comparison-line comparison) ⌝ }
@@ -31,16 +32,16 @@ fn put_comparison(comparison: Comparison, text: &mut [u8]) -> usize
     }
 }
 
-// Lends tables that every source fits that is not refused with 6.
+// The tables have room for every source within the limit of 65,535 bytes: a row takes at least three of them, a declaration 17.
 fn compare(first: &[u8], second: &[u8], text: &mut [u8]) -> usize
     ensures { λ r. ⌜ Written (now (first .entry)) (now (second .entry)) (now (text .entry)) r (now (text .exit)) ⌝ }
 {
-    let mut surface1 = [0u32; 176000];
-    let mut core1 = [0u32; 176000];
-    let mut declarations1 = [0u32; 20000];
-    let mut surface2 = [0u32; 176000];
-    let mut core2 = [0u32; 176000];
-    let mut declarations2 = [0u32; 20000];
+    let mut surface1 = [0u32; 174760];
+    let mut core1 = [0u32; 174760];
+    let mut declarations1 = [0u32; 19275];
+    let mut surface2 = [0u32; 174760];
+    let mut core2 = [0u32; 174760];
+    let mut declarations2 = [0u32; 19275];
     let mut work = [0u32; 16384];
     let comparison = same::same(
         first,
@@ -56,35 +57,12 @@ fn compare(first: &[u8], second: &[u8], text: &mut [u8]) -> usize
     put_comparison(comparison, text)
 }
 
-// Opens the file that an argument names, and answers its descriptor, or -1 with a message.
-fn open(argument: usize) -> i32 {
-    let mut path = io::buffer();
-    let n = os::arg(argument, &mut path);
-    if os::errno() != 0 {
-        os::fail(b"argument");
-        return -1;
-    }
-    let fd = os::open_read(&path[..n]);
-    if fd < 0 {
-        os::fail(&path[..n]);
-    }
-    fd
-}
-
 // Each buffer has a byte more than the longest source that is taken, so that a longer one is seen without reading it all.
 fn main() {
-    let one = open(1);
-    if one < 0 {
-        return;
-    }
-    let other = open(2);
-    if other < 0 {
-        return;
-    }
     let mut first = io::large_buffer();
-    let m = io::read_full(one, &mut first);
+    let m = io::read_full(STDIN_FILENO, &mut first);
     let mut second = io::large_buffer();
-    let n = io::read_full(other, &mut second);
+    let n = io::read_full(3, &mut second);
     let mut text = [0u8; 64];
     let length = compare(&first[..m], &second[..n], &mut text);
     if length <= text.len() {

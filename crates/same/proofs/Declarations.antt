@@ -1,14 +1,16 @@
 -- Declarations that are the same in two pairs of tables, one after the other. Assumes nothing.
-use Prim.Native.Nat.{ℕ, suc, _+_, _≤_, _<_}
-use mathlib.Core.Path.{_≡_, sym, ap, _∙_, subst₂}
+use Prim.Native.Nat.{ℕ, suc, _+_, _*_, _≤_, _<_}
+use mathlib.Core.Path.{_≡_, sym, subst₂}
 use mathlib.Core.List.{List}
 use mathlib.Core.Logic.{_⊎_, inl, inr}
 use mathlib.Core.Bool.{Bool, true, false}
 use native.Mathlib.Omega.{arith}
 use native.Mathlib.Decide.{decLt}
 use native.Mathlib.Numerals.{add-one}
+use lib.ListN.{getD}
 use borrow.Author.Count.{below-more}
-use Rattle.same.specs.Contents.{Decides, first-row, SameRows, SameRecord, SameDeclaration, SameBefore, FirstDifferent}
+use Rattle.depends.specs.Search.{row-behind, first-row}
+use Rattle.same.specs.Contents.{Decides, SameRows, SameRecord, SameDeclaration, SameBefore, FirstDifferent}
 use Rattle.same.proofs.Contents.{decides, holds, fails}
 
 module _ (s core₁ declarations₁ t core₂ declarations₂ : List ℕ) where
@@ -23,22 +25,23 @@ module _ (s core₁ declarations₁ t core₂ declarations₂ : List ℕ) where
     pub declaration-no : q ≡ false → ¬ Declared k
     declaration-no n d = fails (SameRecord s declarations₁ t declarations₂ k) q o n (d .records)
 
-    pub declaration-by-rows : q ≡ true → (from to : ℕ) → from ≡ first-row declarations₁ k → to ≡ first-row declarations₁ (k + 1)
+    pub declaration-by-rows : q ≡ true → (from to : ℕ) → from ≡ first-row declarations₁ k → to ≡ row-behind declarations₁ k
         → (r : Bool) → Decides r (SameRows s core₁ t core₂ from to) → Decides r (Declared k)
     declaration-by-rows y from to e f r d =
-        let g : to ≡ first-row declarations₁ (suc k) = f ∙ ap (first-row declarations₁) (add-one k) in
         decides r
         (λ h. record {
           records = holds (SameRecord s declarations₁ t declarations₂ k) q o y;
-          rows = subst₂ (SameRows s core₁ t core₂) e g h;
+          rows = subst₂ (SameRows s core₁ t core₂) e f h;
         })
-        (λ h. subst₂ (SameRows s core₁ t core₂) (sym e) (sym g) (h .rows))
+        (λ h. subst₂ (SameRows s core₁ t core₂) (sym e) (sym f) (h .rows))
         d
 
   pub none-before : Before 0
+  unfolding first-row
   none-before = record { records = λ j h. absurd (omega arith); rows = λ n h l. absurd (omega arith) }
 
   one-more : (k : ℕ) → Before k → Declared k → Before (suc k)
+  unfolding first-row
   one-more k b d = record {
     records = λ j h. below-more (SameRecord s declarations₁ t declarations₂) k (b .records) (d .records) j (omega arith);
     rows = λ n h l. elim (decLt n (first-row declarations₁ k)) [
@@ -48,6 +51,7 @@ module _ (s core₁ declarations₁ t core₂ declarations₂ : List ℕ) where
   }
 
   one-less : (k : ℕ) → Before (suc k) → Declared k
+  unfolding first-row
   one-less k b = record { records = b .records k (omega arith); rows = λ n h l. b .rows n h (omega arith) }
 
   -- The walk over the declarations: those before k are the same.
@@ -65,3 +69,8 @@ module _ (s core₁ declarations₁ t core₂ declarations₂ : List ℕ) where
 
       pub goes-on : r ≡ true → Before (k + 1)
       goes-on e = rw add-one (one-more k b (holds (Declared k) r d e))
+
+-- Rows are numbered by words of 32 bits.
+pub behind-small : (declarations : List ℕ) (k : ℕ) → ((i : ℕ) → getD declarations i 0 < 4294967296) → row-behind declarations k ≤ 4294967296
+unfolding row-behind
+behind-small declarations k h = omega (arith, h (k * 5 + 3), h (k * 5 + 4))

@@ -1,21 +1,20 @@
 -- The tables of a module, row by row and record by record, and of its first declarations. Assumes nothing.
-use Prim.Native.Nat.{ℕ, zero, suc, _+_, _*_, _≤_, _<_}
+use Prim.Native.Nat.{ℕ, zero, suc, _+_, _*_, _≤_, _<_, max}
 use mathlib.Core.Path.{_≡_, refl, sym, ap, ap₂, _∙_}
 use mathlib.Core.List.{List, [], _∷_, map}
-use mathlib.Core.Bool.{cond}
 use native.Mathlib.Omega.{arith}
 use native.Mathlib.Nat.{suc-mul, zero-mul, zero-add}
 use native.Mathlib.Numerals.{add-one}
-use lib.Dec.{eqb}
 use lib.ListN.{length, getD, take, drop, List·getD-append, List·getD-map, length-map, length-take, length-append}
 use lib.Seq.{drop-cons, drop-drop, getD-take}
+use Rattle.depends.specs.Search.{row-behind, first-row}
 use Rattle.terms.specs.Label.{NamedDeclaration}
 use Rattle.terms.specs.Rows.{first-rows}
 use Rattle.terms.specs.Content.{RowContent, row-content, RecordContent, record-content}
 use Rattle.terms.proofs.Tables.{length-first-rows}
 use Rattle.terms.proofs.NamedModule.{ShapedModule, cores, rows-of, records-of}
-use Rattle.same.specs.Contents.{words-at, row-at, record-at, last-row, first-row}
-use Rattle.same.proofs.Prefixes.{no-record, length-records, records-take, rows-split, last-of, last-rows}
+use Rattle.same.specs.Contents.{words-at, row-at, record-at}
+use Rattle.same.proofs.Prefixes.{no-record, length-records, records-take, rows-split, behind-of, behind-rows}
 
 abbrev pub no-row : RowContent
 no-row = record { kind = 0; digits = []; fields = [] }
@@ -81,14 +80,16 @@ module _ (s core declarations : List ℕ) (l : List NamedDeclaration) (h : Hold 
         ∙ ap (λ (r : List RecordContent). getD r j no-record) (sym (records-take k 0 [] l));
   }
 
-  pub last-is : (j : ℕ) → last-row declarations j ≡ last-of (record-content s (record-at declarations j))
-  last-is j =
+  pub behind-is : (j : ℕ) → row-behind declarations j ≡ behind-of (record-content s (record-at declarations j))
+  unfolding row-behind
+  behind-is j =
       let a : j * 5 + 3 ≡ j * 5 + 1 + 1 + 1 = omega arith in
       let b : j * 5 + 4 ≡ j * 5 + 1 + 1 + 1 + 1 = omega arith in
-      ap₂ (λ (x y : ℕ). cond (eqb (getD declarations (j * 5) 0) 1) (getD declarations x 0) (getD declarations y 0)) a b
+      ap₂ (λ (x y : ℕ). max (getD declarations x 0) (getD declarations y 0) + 1) a b
 
   -- The first row of declaration k is behind those of the declarations before it.
   pub first-row-is : ShapedModule l → (k : ℕ) → k ≤ length l → first-row declarations k ≡ length (rows-of 0 (cores [] (take k l)))
+  unfolding first-row
   first-row-is w zero p = refl
   first-row-is w (suc j) p =
-      ap suc (last-is j ∙ ap last-of (h .records j (omega arith))) ∙ last-rows j 0 [] l w (omega arith) ∙ zero-add _
+      behind-is j ∙ ap behind-of (h .records j (omega arith)) ∙ behind-rows j 0 [] l w (omega arith) ∙ zero-add _

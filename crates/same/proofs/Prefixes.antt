@@ -1,13 +1,11 @@
 -- The first declarations of a module with names: they are a module, and their rows and records come first. Assumes nothing.
-use Prim.Native.Nat.{ℕ, zero, suc, _+_, _<_}
+use Prim.Native.Nat.{ℕ, zero, suc, _+_, _≤_, _<_, max}
 use mathlib.Core.Path.{_≡_, refl, sym, ap, _∙_}
-use mathlib.Core.Logic.{by-cases, if-pos, if-neg}
+use mathlib.Core.Logic.{ite}
 use mathlib.Core.List.{List, [], _∷_, _++_, append-assoc, append-nil}
-use mathlib.Core.Bool.{Bool, true, cond, and-eq-true-iff}
+use mathlib.Core.Bool.{true, and-eq-true-iff}
 use native.Mathlib.Decide.{ℕ-discrete}
 use native.Mathlib.Omega.{arith}
-use lib.Dec.{eqb}
-use borrow.Author.Tests.{eq-eqb, ne-eqb}
 use lib.ListN.{length, getD, take, length-append, length-map}
 use Rattle.terms.specs.Tree.{Forest, nil, node, next, roots, cells, count}
 use Rattle.terms.specs.Label.{Name, NamedDeclaration}
@@ -56,47 +54,37 @@ rows-split (suc k) n g (d ∷ l) =
     let w = rows-split k (next n f) (g ++ (d .name ∷ [])) l in
     (w .0, ap (λ (r : List RowContent). rows n f ++ r) (w .1) ∙ sym (append-assoc (rows n f) _ (w .0)))
 
--- The last row of a record's declaration: its body's, or the type's of a postulate.
-abbrev pub last-of : RecordContent → ℕ
-last-of r = cond (eqb (r .kind) 1) (getD (r .rows) 0 0) (getD (r .rows) 1 0)
+-- The row behind a record's declaration: its last row is its body's, or its type's.
+abbrev pub behind-of : RecordContent → ℕ
+behind-of r = max (getD (r .rows) 0 0) (getD (r .rows) 1 0) + 1
 
-abbrev picked : ℕ → List ℕ → ℕ
-picked k r = cond (eqb k 1) (getD r 0 0) (getD r 1 0)
-
-has-one : (k : ℕ) → k ≡ 1 → has k ≡ 1
-has-one k e = if-pos (ℕ-discrete k 1) e 1 2
-
-has-two : (k : ℕ) → ¬ (k ≡ 1) → has k ≡ 2
-has-two k e = if-neg (ℕ-discrete k 1) e 1 2
-
--- It is the last of its trees' rows.
-last-next : (n k : ℕ) (f : Forest NamedCore) → count f ≡ has k → suc (picked k (pad 2 (roots n f))) ≡ next n f
-last-next n k f e = by-cases (ℕ-discrete k 1) (λ q. one f (e ∙ has-one k q) q) (λ q. two f (e ∙ has-two k q) q)
+one-or-two : (k : ℕ) → (1 ≤ has k) × (has k ≤ 2)
+one-or-two k = go (ℕ-discrete k 1)
   where
-    one : (f : Forest NamedCore) → count f ≡ 1 → k ≡ 1 → suc (picked k (pad 2 (roots n f))) ≡ next n f
-    one nil c q = absurd (omega arith)
-    one (node h a nil) c q = ap (λ (b : Bool). suc (cond b (next n a) 0)) (eq-eqb k 1 q)
-    one (node h a (node i b r)) c q = absurd (omega arith)
+    go : (d : Dec (k ≡ 1)) → (1 ≤ ite d 1 2) × (ite d 1 2 ≤ 2)
+    go (yes e) = (omega arith, omega arith)
+    go (no e) = (omega arith, omega arith)
 
-    two : (f : Forest NamedCore) → count f ≡ 2 → ¬ (k ≡ 1) → suc (picked k (pad 2 (roots n f))) ≡ next n f
-    two nil c q = absurd (omega arith)
-    two (node h a nil) c q = absurd (omega arith)
-    two (node h a (node i b nil)) c q = ap (λ (x : Bool). suc (cond x (next n a) (next (suc (next n a)) b))) (ne-eqb k 1 q)
-    two (node h a (node i b (node j d r))) c q = absurd (omega arith)
+-- It is the row behind its trees' rows.
+behind-next : (n k : ℕ) (f : Forest NamedCore) → count f ≡ has k → max (getD (pad 2 (roots n f)) 0 0) (getD (pad 2 (roots n f)) 1 0) + 1 ≡ next n f
+behind-next n k nil e = absurd (omega (arith, one-or-two k .0))
+behind-next n k (node h a nil) e = omega arith
+behind-next n k (node h a (node i b nil)) e = omega (arith, next-cells (suc (next n a)) b)
+behind-next n k (node h a (node i b (node j d r))) e = absurd (omega (arith, one-or-two k .1))
 
 length-rows : (n : ℕ) (f : Forest NamedCore) → next n f ≡ n + length (rows n f)
 length-rows n f = next-cells n f ∙ ap (λ (j : ℕ). n + j) (sym (length-map (cells n f) row))
 
--- The row behind the last of a declaration's is as many rows on as the declarations so far have.
-pub last-rows : (k n : ℕ) (g : List Name) (l : List NamedDeclaration) → ShapedModule l → k < length l
-    → suc (last-of (getD (records-of n (cores g l)) k no-record)) ≡ n + length (rows-of n (cores g (take (suc k) l)))
-last-rows k n g [] w h = absurd (omega arith)
-last-rows zero n g (d ∷ l) w h =
+-- The row behind a declaration is as many rows on as the declarations so far have.
+pub behind-rows : (k n : ℕ) (g : List Name) (l : List NamedDeclaration) → ShapedModule l → k < length l
+    → behind-of (getD (records-of n (cores g l)) k no-record) ≡ n + length (rows-of n (cores g (take (suc k) l)))
+behind-rows k n g [] w h = absurd (omega arith)
+behind-rows zero n g (d ∷ l) w h =
     let f = core (λ i. []) g (parts d) in
-    last-next n (d .kind) f (count-core (λ i. []) g (parts d) ∙ w .0)
+    behind-next n (d .kind) f (count-core (λ i. []) g (parts d) ∙ w .0)
     ∙ length-rows n f
     ∙ ap (λ (r : List RowContent). n + length r) (sym (append-nil (rows n f)))
-last-rows (suc k) n g (d ∷ l) w h =
+behind-rows (suc k) n g (d ∷ l) w h =
     let f = core (λ i. []) g (parts d) in
-    let t = last-rows k (next n f) (g ++ (d .name ∷ [])) l (w .2) (omega arith) in
+    let t = behind-rows k (next n f) (g ++ (d .name ∷ [])) l (w .2) (omega arith) in
     omega (arith, t, length-rows n f, length-append (rows n f) (rows-of (next n f) (cores (g ++ (d .name ∷ [])) (take (suc k) l))))

@@ -7,6 +7,7 @@ use native.Mathlib.Decide.{decLt}
 use native.Mathlib.Omega.{arith}
 use lib.ListN.{length, getD, take, length-take}
 use lib.Seq.{take-length, length-take-le, ext-getD}
+use Rattle.depends.specs.Search.{first-row}
 use Rattle.terms.specs.Label.{NamedDeclaration}
 use Rattle.terms.specs.Content.{RowContent, RecordContent}
 use Rattle.terms.specs.Agreement.{AgreeModule}
@@ -14,9 +15,9 @@ use Rattle.terms.proofs.NamedModule.{ShapedModule, cores, resolves, rows-of}
 use Rattle.terms.proofs.SameContents.{SameContents, same-contents}
 use Rattle.same.specs.declared.Comparison.{Comparison}
 use Rattle.same.specs.Comparison.{PartAt}
-use Rattle.same.specs.Contents.{first-row, SameRow, SameRecord, SameBefore, FirstDifferent, Compared}
-use Rattle.same.proofs.Prefixes.{no-record, take-shaped, take-resolves, length-records, last-of}
-use Rattle.same.proofs.ModuleTables.{no-row, Hold, hold-first, last-is, first-row-is}
+use Rattle.same.specs.Contents.{SameRow, SameRecord, SameBefore, FirstDifferent, Compared}
+use Rattle.same.proofs.Prefixes.{no-record, take-shaped, take-resolves, length-records, behind-of}
+use Rattle.same.proofs.ModuleTables.{no-row, Hold, hold-first, behind-is, first-row-is}
 
 -- A source's tables, and the module that they hold.
 pub record Side (s core declarations : List ℕ) (l : List NamedDeclaration) : Type 0 where
@@ -44,10 +45,10 @@ module _ (s core₁ declarations₁ t core₂ declarations₂ : List ℕ) where
   module _ (l m : List NamedDeclaration) (h : Side s core₁ declarations₁ l) (j : Side t core₂ declarations₂ m) where
     -- Equal records give equal numbers of rows.
     same-first : (k : ℕ) → ((i : ℕ) → i < k → SameRecord s declarations₁ t declarations₂ i) → first-row declarations₁ k ≡ first-row declarations₂ k
-    unfolding SameRecord
+    unfolding SameRecord first-row
     same-first zero r = refl
     same-first (suc k) r =
-        ap suc (last-is s core₁ declarations₁ l (h .holds) k ∙ ap last-of (r k (omega arith)) ∙ sym (last-is t core₂ declarations₂ m (j .holds) k))
+        behind-is s core₁ declarations₁ l (h .holds) k ∙ ap behind-of (r k (omega arith)) ∙ sym (behind-is t core₂ declarations₂ m (j .holds) k)
 
     contents-to : length l ≡ length m → Before (length l) → SameContents l m
     unfolding SameRow SameRecord

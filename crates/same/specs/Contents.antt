@@ -1,11 +1,11 @@
 -- Rows and records of two pairs of tables, compared by what counts of them. Cited by inner contracts only. Assumes nothing.
 use mathlib.Core.Path.{_≡_}
 use mathlib.Core.List.{List, [], _∷_}
-use mathlib.Core.Bool.{Bool, true, false, cond}
+use mathlib.Core.Bool.{Bool, true, false}
 use Prim.Native.Nat.{ℕ, zero, suc, _+_, _*_, _≤_, _<_}
-use lib.Dec.{eqb}
 use lib.ListN.{getD}
 use Rattle.terms.specs.Label.{part}
+use Rattle.depends.specs.Search.{row-behind, first-row}
 use Rattle.terms.specs.Content.{row-content, record-content}
 use Rattle.same.specs.declared.Comparison.{Comparison}
 
@@ -30,16 +30,6 @@ row-at core i = words-at 8 core (i * 8)
 abbrev pub record-at : List ℕ → ℕ → List ℕ
 record-at declarations k = words-at 5 declarations (k * 5)
 
--- The last row of declaration k: its body's, or the type's of a postulate, which is of kind 1.
-abbrev pub last-row : List ℕ → ℕ → ℕ
-last-row declarations k =
-    cond (eqb (getD declarations (k * 5) 0) 1) (getD declarations (k * 5 + 3) 0) (getD declarations (k * 5 + 4) 0)
-
--- The first row of declaration k: the one behind the last of the declaration before it.
-abbrev pub first-row : List ℕ → ℕ → ℕ
-first-row declarations zero = 0
-first-row declarations (suc k) = suc (last-row declarations k)
-
 -- Row i of two core tables, by what counts of it.
 unfoldable pub SameRow : List ℕ → List ℕ → List ℕ → List ℕ → ℕ → Type 0
 SameRow s core₁ t core₂ i = row-content s (row-at core₁ i) ≡ row-content t (row-at core₂ i)
@@ -57,7 +47,7 @@ module _ (s core₁ declarations₁ t core₂ declarations₂ : List ℕ) where
   -- The record of declaration k and its rows.
   pub record SameDeclaration (k : ℕ) : Type 0 where
     pub records : SameRecord s declarations₁ t declarations₂ k
-    pub rows : SameRows s core₁ t core₂ (first-row declarations₁ k) (first-row declarations₁ (suc k))
+    pub rows : SameRows s core₁ t core₂ (first-row declarations₁ k) (row-behind declarations₁ k)
 
   -- The records of the first k declarations and their rows.
   pub record SameBefore (k : ℕ) : Type 0 where

@@ -1,4 +1,6 @@
 // The same-core question: whether two sources leave the same core, and otherwise where they part. Ours, beyond document 01.
+use depends::first_row;
+use depends::row_behind;
 use loader::load;
 use scope::atom;
 use surface::Answer;
@@ -10,7 +12,7 @@ ghost use Prim.Native.Nat.{_+_, _*_, _≤_, _<_};
 ghost use lib.ListN.{length};
 ghost use Rattle.tables.specs.Tables.{cleared};
 ghost use Rattle.loader.specs.Leaving.{lengths-of};
-ghost use Rattle.same.specs.Contents.{Decides, words-at, atom-at, first-row, last-row, SameRow, SameRows, SameRecord, SameDeclaration, FirstDifferent, Compared};
+ghost use Rattle.same.specs.Contents.{Decides, words-at, atom-at, SameRow, SameRows, SameRecord, SameDeclaration, FirstDifferent, Compared};
 ghost use Rattle.same.specs.Comparison.{tables, Asked};
 
 pub enum Comparison {
@@ -94,29 +96,6 @@ fn same_record(s: &[u8], declarations1: &[u32], t: &[u8], declarations2: &[u32],
     same_words(declarations1, declarations2, at + 3, 2)
 }
 
-// A postulate, of kind 1, has no body.
-fn last_row(declarations: &[u32], k: usize) -> u32
-    requires { ⌜ k * 5 + 5 ≤ length (now declarations) ⌝ }
-    ensures { λ r. ⌜ r ≡ last-row (now (declarations .entry)) k ⌝ }
-{
-    let at = k * 5;
-    if word_at(declarations, at) == 1 {
-        return word_at(declarations, at + 3);
-    }
-    word_at(declarations, at + 4)
-}
-
-fn first_row(declarations: &[u32], k: usize) -> usize
-    requires { ⌜ k * 5 ≤ length (now declarations) ⌝ }
-    ensures { λ r. ⌜ (r ≡ first-row (now (declarations .entry)) k) × (r ≤ 4294967296) ⌝ }
-{
-    if k == 0 {
-        return 0;
-    }
-    let last = last_row(declarations, k - 1);
-    last as usize + 1
-}
-
 // Declaration k: its record, and its rows, which have the same numbers on both sides where the declarations before it are the same.
 fn same_declaration(
     s: &[u8],
@@ -134,7 +113,7 @@ fn same_declaration(
         return false;
     }
     let from = first_row(declarations1, k);
-    let to = first_row(declarations1, k + 1);
+    let to = row_behind(declarations1, k);
     same_rows(s, core1, t, core2, from, to)
 }
 

@@ -1,23 +1,23 @@
--- `same_main::compare` meets its contract. Assumes nothing.
+-- `comparison::compare` meets its contract. Assumes nothing.
 use Prim.Native.Nat.{ℕ}
 use mathlib.Core.Path.{_≡_}
 use lib.ListN.{length, replicate, length-replicate}
 use Rattle.loader.specs.Leaving.{lengths-of}
-use Rattle.same_main.specs.Program.{lent}
-use Rattle.same_main.proofs.Lines.{written}
+use Rattle.comparison.specs.Program.{lent}
+use Rattle.comparison.proofs.Lines.{written}
 use borrow.Author.Needs.{needs}
-use Rattle.same_main.proofs.compare.Statement.{statement}
-use Rattle.same_main.proofs.compare.Tie as tie
+use Rattle.comparison.proofs.compare.Statement.{statement}
+use Rattle.comparison.proofs.compare.Tie as tie
 
 zeros-long : (n : ℕ) → length (replicate {A = ℕ} n 0) ≡ n
 zeros-long n = length-replicate n 0
 
 -- The tables have the lengths that the definition gives them.
-all-lent : lengths-of (replicate 176000 0) (replicate 176000 0) (replicate 20000 0) (replicate 16384 0) ≡ lent
+all-lent : lengths-of (replicate 174760 0) (replicate 174760 0) (replicate 19275 0) (replicate 16384 0) ≡ lent
 all-lent = λ i. record {
-  surface = zeros-long 176000 i;
-  core = zeros-long 176000 i;
-  declarations = zeros-long 20000 i;
+  surface = zeros-long 174760 i;
+  core = zeros-long 174760 i;
+  declarations = zeros-long 19275 i;
   work = zeros-long 16384 i;
 }
 

@@ -1,22 +1,10 @@
--- `same_main::main` is safe: what is written is within the text's buffer. Assumes nothing.
+-- `comparison::main` is safe: what is written is within the text's buffer. Assumes nothing.
 use mathlib.Core.Path.{sym}
 use native.Mathlib.Omega.{arith}
 use lib.Seq.{length-take-le}
 use borrow.Author.Needs.{needs}
-use Rattle.same_main.proofs.main.Statement.{statement}
-use Rattle.same_main.proofs.main.Tie as tie
-
-open-requires : tie.Need-open-requires
-open-requires c κs = search needs
-
-returns : tie.Need-returns
-returns c = search needs
-
-open-requires-2 : tie.Need-open-requires-2
-open-requires-2 c κs = search needs
-
-returns-2 : tie.Need-returns-2
-returns-2 c = search needs
+use Rattle.comparison.proofs.main.Statement.{statement}
+use Rattle.comparison.proofs.main.Tie as tie
 
 large-buffer-requires : tie.Need-large-buffer-requires
 large-buffer-requires c κs = search needs
@@ -65,20 +53,16 @@ slice-aggregate-write-all c =
 write-all-requires : tie.Need-write-all-requires
 write-all-requires c κs = search needs
 
-returns-3 : tie.Need-returns-3
-returns-3 c = search needs
+returns : tie.Need-returns
+returns c = search needs
 
-returns-4 : tie.Need-returns-4
-returns-4 c = search needs
+returns-2 : tie.Need-returns-2
+returns-2 c = search needs
 
 pub main-spec : {M : Type 1} → statement M
 main-spec =
     tie.close
     (tie.spec
-    open-requires
-    returns
-    open-requires-2
-    returns-2
     large-buffer-requires
     slice-aggregate-read-full
     read-full-requires
@@ -94,5 +78,5 @@ main-spec =
     array-share-prefix-text
     slice-aggregate-write-all
     write-all-requires
-    returns-3
-    returns-4)
+    returns
+    returns-2)

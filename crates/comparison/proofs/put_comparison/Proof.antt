@@ -1,4 +1,4 @@
--- `same_main::put_comparison` meets its contract. Assumes nothing.
+-- `comparison::put_comparison` meets its contract. Assumes nothing.
 use mathlib.Core.Path.{refl}
 use mathlib.Core.List.{[], _∷_}
 use Rattle.words.specs.Words.{ascii}
@@ -6,11 +6,11 @@ use Rattle.same.specs.declared.Comparison.{Comparison}
 use Rattle.text.specs.Text.{decimal}
 use Rattle.text.proofs.Writing.{piece, _then_}
 use Rattle.lines.specs.Listing.{line, refusal-line}
-use Rattle.same_main.specs.Program.{comparison-line}
-use Rattle.same_main.proofs.Lines.{line-put}
+use Rattle.comparison.specs.Program.{comparison-line}
+use Rattle.comparison.proofs.Lines.{line-put}
 use borrow.Author.Needs.{needs}
-use Rattle.same_main.proofs.put_comparison.Statement.{statement}
-use Rattle.same_main.proofs.put_comparison.Tie as tie
+use Rattle.comparison.proofs.put_comparison.Statement.{statement}
+use Rattle.comparison.proofs.put_comparison.Tie as tie
 
 enum-told : tie.Need-enum-told
 enum-told c = search needs
