@@ -9,7 +9,6 @@ mod loading {
     pub mod card;
     pub mod check;
     pub mod compare;
-    #[cfg(any(mock, depends))]
     pub mod dependence;
     pub mod edges;
     pub mod expected;
@@ -41,7 +40,6 @@ fn main() -> ExitCode {
         Some("card") => loading::card::run(),
         Some("compare") => loading::compare::run(number(1, loading::compare::COUNT), number(2, 3) as u64),
         Some("program") if words.len() > 2 => loading::program::run(number(1, 1), &words[2..]),
-        #[cfg(any(mock, depends))]
         Some("dependence") => loading::dependence::run(number(1, loading::dependence::COUNT), number(2, 4) as u64),
         Some("same") => loading::same::run(number(1, loading::same::COUNT), number(2, 5) as u64),
         #[cfg(mock)]

@@ -1,129 +1,93 @@
-//! Reading alone, measured: `measure` prints bytes per second for both readers on three sources; `measure ours|rust SOURCE TURNS`
-//! only reads, for a counter of instructions. Our tables are lent once and hold what the turn before left; `parse_surface` allocates.
-use hott_kernel::surface::parse_surface;
-use std::hint::black_box;
+//! Reading alone and loading, measured against the Rust: `measure` prints a table for docs/PERFORMANCE.md, and
+//! `measure TASK WHO SOURCE BYTES TURNS` only works, for a counter of instructions.
+#[path = "measuring/sources.rs"]
+mod sources;
+#[path = "measuring/work.rs"]
+mod work;
+
+use sources::{SIZES, SOURCES, source};
+use std::process::Command;
 use std::time::Instant;
+use sulyterom::LONGEST_SOURCE;
+use work::{Task, Who, Work};
 
-// A slice passes as a pointer and then a length.
-#[link(name = "probe", kind = "static")]
-unsafe extern "C" {
-    fn sulyterom_parse(
-        source: *const u8,
-        source_length: usize,
-        surface: *mut u32,
-        surface_length: usize,
-        declarations: *mut u32,
-        declarations_length: usize,
-        work: *mut u32,
-        work_length: usize,
-    ) -> usize;
-}
+/// Rounds in which both are timed, one behind the other; the quickest turn of each counts.
+const ROUNDS: usize = 200;
+/// Turns whose instructions are counted, beside one that is taken off for the rest of the program.
+const TURNS: usize = 4;
 
-const BYTES: usize = 60_000;
-const HEAD: &str = "(surface 0 1)(module measured)\n";
-
-/// The tables of our reader, with some room to spare: what is lent and not used has to be cleared.
-struct Tables {
-    surface: Vec<u32>,
-    declarations: Vec<u32>,
-    work: Vec<u32>,
-}
-
-impl Tables {
-    fn new(rows: usize) -> Self {
-        Self { surface: vec![0; (rows + 64) * 8], declarations: vec![0; 1_024 * 5], work: vec![0; 16_384] }
-    }
-
-    fn read(&mut self, source: &[u8]) -> usize {
-        let (rows, list, work) = (&mut self.surface, &mut self.declarations, &mut self.work);
-        // SAFETY: each pointer comes with its slice's length.
-        unsafe {
-            sulyterom_parse(
-                source.as_ptr(),
-                source.len(),
-                rows.as_mut_ptr(),
-                rows.len(),
-                list.as_mut_ptr(),
-                list.len(),
-                work.as_mut_ptr(),
-                work.len(),
-            )
+/// Million bytes a second of ours, of ours with tables that suffice for every source, and of the Rust.
+fn rates(task: Task, text: &[u8]) -> [f64; 3] {
+    let mut works = [Work::exact(text), Work::longest(text), Work::exact(text)];
+    let whos = [Who::Ours, Who::Ours, Who::Rust];
+    let mut quickest = [f64::INFINITY; 3];
+    for _ in 0..ROUNDS {
+        for ((work, who), best) in works.iter_mut().zip(whos).zip(&mut quickest) {
+            let from = Instant::now();
+            work.turn(task, who);
+            *best = best.min(from.elapsed().as_secs_f64());
         }
     }
+    quickest.map(|seconds| text.len() as f64 / seconds / 1e6)
 }
 
-/// Declarations made by `next`, one behind the other, as many as fit.
-fn source(next: impl Fn(usize) -> String) -> Vec<u8> {
-    let mut text = String::from(HEAD);
-    for i in 0.. {
-        let declaration = next(i);
-        if text.len() + declaration.len() > BYTES {
-            break;
-        }
-        text.push_str(&declaration);
+/// The instructions of a run by valgrind, if it is at hand.
+fn counted(words: &[String]) -> Option<u64> {
+    let program = std::env::current_exe().ok()?;
+    // The library's memset and memcpy use string instructions for long blocks, of which valgrind counts one a byte.
+    let plain = "glibc.cpu.x86_rep_stosb_threshold=1000000000:glibc.cpu.x86_rep_movsb_threshold=1000000000";
+    let mut valgrind = Command::new("valgrind");
+    valgrind.args(["--tool=callgrind", "--callgrind-out-file=/dev/null"]).env("GLIBC_TUNABLES", plain);
+    let output = valgrind.arg(program).args(words).output().ok()?;
+    let said = String::from_utf8_lossy(&output.stderr).into_owned();
+    said.lines().find_map(|line| line.split("Collected : ").nth(1)?.trim().parse().ok())
+}
+
+/// Instructions a byte, as text.
+fn instructions(task: Task, who: Who, name: &str, size: usize, bytes: usize) -> String {
+    let run = |turns: usize| {
+        counted(&[task.to_string(), who.to_string(), name.to_owned(), size.to_string(), turns.to_string()])
+    };
+    match (run(1), run(1 + TURNS)) {
+        (Some(once), Some(more)) => format!("{:.0}", (more - once) as f64 / TURNS as f64 / bytes as f64),
+        _ => "-".to_owned(),
     }
-    text.into_bytes()
 }
 
-/// Terms of 400 nested forms.
-fn deep(i: usize) -> String {
-    format!("(postulate d{i} {}(universe {i}){})\n", "(pi x nat (app zero ".repeat(200), "))".repeat(200))
-}
-
-/// Short declarations with long names that share a tail but not a head.
-fn names(i: usize) -> String {
-    let tail = "_of_a_long_name_that_all_declarations_share";
-    format!("(transparent n{i}{tail} nat (lam y{i}{tail} (ref y{i}{tail})))\n")
-}
-
-/// Comments and layout around short declarations.
-fn comments(i: usize) -> String {
-    format!("; declaration number {i}, which says nothing of interest, on a line of its own\n\n    (postulate\n        c{i}\n        (id nat zero zero))   ; end\n\n")
-}
-
-fn sources() -> [(&'static str, Vec<u8>); 3] {
-    [("deep", source(deep)), ("names", source(names)), ("comments", source(comments))]
-}
-
-fn rows_of(text: &[u8]) -> usize {
-    parse_surface(text).expect("a good source").arena().len()
-}
-
-/// The quickest of many turns, in seconds.
-fn quickest(mut turn: impl FnMut()) -> f64 {
-    let timed = (0..300).map(|_| {
-        let from = Instant::now();
-        turn();
-        from.elapsed().as_secs_f64()
-    });
-    timed.fold(f64::INFINITY, f64::min)
-}
-
-fn rates() {
-    for (name, text) in sources() {
-        let rows = rows_of(&text);
-        let mut tables = Tables::new(rows);
-        assert_eq!(tables.read(&text), rows, "rows of {name}");
-        let ours = quickest(|| {
-            black_box(tables.read(black_box(&text)));
-        });
-        let rust = quickest(|| {
-            black_box(parse_surface(black_box(&text)).is_ok());
-        });
-        let rate = |seconds: f64| text.len() as f64 / seconds / 1e6;
-        println!("{name}: {} bytes, {rows} rows, ours {:.0} MB/s, Rust {:.0} MB/s", text.len(), rate(ours), rate(rust));
+/// A line of the table for each size of a source.
+fn measure(task: Task, name: &str) {
+    for size in SIZES {
+        let text = source(name, size);
+        let work = Work::exact(&text);
+        let [ours, longest, rust] = rates(task, &text);
+        let [ours_count, rust_count] =
+            [Who::Ours, Who::Rust].map(|who| instructions(task, who, name, size, text.len()));
+        println!(
+            "| {name} | {} | {} | {} | {ours:.0} | {longest:.0} | {rust:.0} | {ours_count} | {rust_count} |",
+            text.len(),
+            work.rows,
+            work.declarations
+        );
     }
 }
 
 fn main() {
     let words: Vec<String> = std::env::args().skip(1).collect();
-    let [who, name, turns] = &words[..] else { return rates() };
-    let text = sources().into_iter().find(|(known, _)| known == name).expect("deep, names or comments").1;
-    let mut tables = Tables::new(rows_of(&text));
-    for _ in 0..turns.parse().expect("a number of turns") {
-        match who.as_str() {
-            "ours" => assert!(black_box(tables.read(black_box(&text))) > 0),
-            _ => assert!(black_box(parse_surface(black_box(&text)).is_ok())),
-        }
+    if let [task, who, name, size, turns] = &words[..] {
+        let text = source(name, size.parse().expect("a number of bytes"));
+        let (task, who) = (task.parse().expect("read or load"), who.parse().expect("ours or rust"));
+        let mut work = Work::exact(&text);
+        (0..turns.parse().expect("a number of turns")).for_each(|_| work.turn(task, who));
+        return;
     }
+    for task in [Task::Read, Task::Load] {
+        let rates = "ours, MB/s | ours, longest tables | the Rust";
+        println!("| {task} | bytes | rows | declarations | {rates} | ours, instructions a byte | the Rust's |");
+        println!("|---|---|---|---|---|---|---|---|---|");
+        SOURCES.iter().for_each(|name| measure(task, name));
+        println!();
+    }
+    println!("MB/s: million bytes a second, the quickest of {ROUNDS} turns, all three timed in turn. Instructions: by");
+    println!("callgrind, {} turns less one, with the C library's string instructions off. Tables: no row", 1 + TURNS);
+    println!("to spare; longest tables: {} rows, as every source may need.", LONGEST_SOURCE / 3);
 }

@@ -1,26 +1,20 @@
-/* Loads document 01's input from C through the static library, as a station's program does, and looks at every word.
-   The last line is 'N passed, M failed'. */
-#include <stddef.h>
-#include <stdint.h>
+/* Loads sources through the static library, as a station's program does, and looks at every word that a call leaves.
+   Built as C and as C++. The last line is 'N passed, M failed'. */
+#include "sulyterom.h"
+#include "sulyterom.h" /* twice is once */
+
 #include <stdio.h>
 #include <string.h>
 
-#if __has_include("sulyterom.h")
-#include "sulyterom.h"
-#else
-uint8_t sulyterom_load(const uint8_t *source, size_t source_len, uint32_t *surface, size_t surface_len,
-                       uint32_t *core, size_t core_len, uint32_t *declarations, size_t declarations_len,
-                       uint32_t *work, size_t work_len, uint64_t *answer,
-                       size_t answer_len);
-#endif
-
-enum { SURFACE = 5 * 8 + 3, CORE = 4 * 8, DECLARATIONS = 3 * 5 + 4, WORK = 16384 };
+enum { SURFACE = 5 * 8 + 3, CORE = 4 * 8, DECLARATIONS = 3 * 5 + 4, WORK = 16384, LONG = 65536 };
 
 static uint32_t surface[SURFACE], core[CORE], declarations[DECLARATIONS], work[WORK];
 static uint64_t answer[3];
+static char text[LONG + 1];
 static int passed, failed;
 
-static const char input[] = "(surface 0 1)(module m)(postulate x nat)(postulate y (pi x (ref x) (ref x)))";
+#define HEAD "(surface 0 1)(module m)"
+static const char input[] = HEAD "(postulate x nat)(postulate y (pi x (ref x) (ref x)))";
 
 /* What document 01 says of the input; the words behind these are 0. */
 static const uint32_t surface_rows[SURFACE] = {
@@ -39,7 +33,22 @@ static const uint32_t records[DECLARATIONS] = {
     1, 34, 1, 0, 0, /* postulate x */
     1, 51, 1, 3, 0, /* postulate y */
 };
-static const uint32_t nothing[WORK];
+static const uint32_t nothing[WORK] = {0};
+
+/* Document 01's numbers, from 1 on. */
+static const int kinds[] = {
+    SULYTEROM_VAR,  SULYTEROM_GLOBAL,   SULYTEROM_UNIVERSE,  SULYTEROM_PI,    SULYTEROM_LAM,
+    SULYTEROM_APP,  SULYTEROM_SIGMA,    SULYTEROM_PAIR,      SULYTEROM_FST,   SULYTEROM_SND,
+    SULYTEROM_ID,   SULYTEROM_REFL,     SULYTEROM_J,         SULYTEROM_EMPTY, SULYTEROM_EMPTY_ELIM,
+    SULYTEROM_UNIT, SULYTEROM_STAR,     SULYTEROM_UNIT_ELIM, SULYTEROM_NAT,   SULYTEROM_ZERO,
+    SULYTEROM_SUCC, SULYTEROM_NAT_ELIM, SULYTEROM_ANN,       SULYTEROM_REF,
+};
+static const int classes[] = {
+    SULYTEROM_MALFORMED,         SULYTEROM_VERSION,     SULYTEROM_RESERVED_NAME, SULYTEROM_DUPLICATE_NAME,
+    SULYTEROM_UNKNOWN_NAME,      SULYTEROM_LONG_SOURCE, SULYTEROM_FRAMES,        SULYTEROM_SURFACE_FULL,
+    SULYTEROM_DECLARATIONS_FULL, SULYTEROM_CORE_SHORT,  SULYTEROM_WORK_SHORT,    SULYTEROM_NO_DECLARATION,
+};
+static const int declaration_kinds[] = {SULYTEROM_POSTULATE, SULYTEROM_TRANSPARENT, SULYTEROM_OPAQUE};
 
 static void check(const char *what, int holds) {
     if (holds) {
@@ -50,42 +59,142 @@ static void check(const char *what, int holds) {
     }
 }
 
-/* Loads with all tables full of rubbish, the surface table and the work area of these lengths. */
-static uint8_t load(const char *source, size_t surface_len, size_t work_len) {
+static int count_from_one(const int *numbers, size_t count) {
+    for (size_t i = 0; i < count; i++) {
+        if (numbers[i] != (int)i + 1) return 0;
+    }
+    return 1;
+}
+#define COUNT_FROM_ONE(numbers) count_from_one(numbers, sizeof(numbers) / sizeof(numbers)[0])
+
+/* How many words of each table are lent. */
+typedef struct {
+    size_t surface, core, declarations, work;
+} lengths;
+static const lengths whole = {SURFACE, CORE, DECLARATIONS, WORK};
+
+/* Every call finds rubbish. */
+static void fill(void) {
     memset(surface, 0xa5, sizeof surface);
     memset(core, 0xa5, sizeof core);
     memset(declarations, 0xa5, sizeof declarations);
     memset(work, 0xa5, sizeof work);
     memset(answer, 0xa5, sizeof answer);
-    return sulyterom_load((const uint8_t *)source, strlen(source), surface, surface_len, core, CORE, declarations,
-                          DECLARATIONS, work, work_len, answer, 3);
+}
+
+static uint8_t load(const char *source, lengths lent) {
+    fill();
+    return sulyterom_load((const uint8_t *)source, strlen(source), surface, lent.surface, core, lent.core,
+                          declarations, lent.declarations, work, lent.work, answer, 3);
+}
+
+static uint8_t depends(const char *source, size_t i, size_t j, lengths lent) {
+    fill();
+    return sulyterom_depends((const uint8_t *)source, strlen(source), i, j, surface, lent.surface, core, lent.core,
+                             declarations, lent.declarations, work, lent.work, answer, 3);
 }
 
 static int answers(uint64_t count, uint64_t first, uint64_t second) {
     return answer[0] == count && answer[1] == first && answer[2] == second;
 }
 
-/* Whether the tables hold these words, so many of the surface table and the work area. */
-static int hold(const uint32_t *rows, size_t surface_len, const uint32_t *resolved, const uint32_t *declared,
-                size_t work_len) {
-    return memcmp(surface, rows, surface_len * 4) == 0 && memcmp(core, resolved, sizeof core) == 0 &&
-           memcmp(declarations, declared, sizeof declarations) == 0 && memcmp(work, nothing, work_len * 4) == 0;
+/* Whether a table holds these words where it was lent, and rubbish behind. */
+static int holds(const uint32_t *table, size_t length, size_t lent, const uint32_t *words) {
+    for (size_t i = lent; i < length; i++) {
+        if (table[i] != 0xa5a5a5a5u) return 0;
+    }
+    return memcmp(table, words, lent * sizeof *table) == 0;
+}
+
+static int hold(lengths lent, const uint32_t *rows, const uint32_t *resolved, const uint32_t *declared) {
+    return holds(surface, SURFACE, lent.surface, rows) && holds(core, CORE, lent.core, resolved) &&
+           holds(declarations, DECLARATIONS, lent.declarations, declared) && holds(work, WORK, lent.work, nothing);
+}
+
+static void accepts(const char *what, const char *source, uint64_t rows, uint64_t declared) {
+    check(what, load(source, whole) == 0 && answers(2, rows, declared));
+}
+
+/* A refusal, at an offset or, with -1, nowhere; it leaves 0 in all that was lent. */
+static void refuses(const char *what, const char *source, lengths lent, uint8_t number, int offset) {
+    int told = load(source, lent) == number;
+    told = told && (offset < 0 ? answers(0, 0, 0) : answers(1, (uint64_t)offset, 0));
+    check(what, told);
+    check(what, hold(lent, nothing, nothing, nothing));
+}
+
+/* The head and spaces, so many bytes in all. */
+static const char *padded(size_t length) {
+    memset(text, ' ', length);
+    memcpy(text, HEAD, strlen(HEAD));
+    text[length] = 0;
+    return text;
+}
+
+/* So many open forms around a star. */
+static const char *nested(int forms) {
+    strcpy(text, HEAD "(opaque a nat ");
+    for (int i = 0; i < forms; i++) strcat(text, "(fst ");
+    strcat(text, "star");
+    for (int i = 0; i < forms; i++) strcat(text, ")");
+    strcat(text, ")");
+    return text;
 }
 
 int main(void) {
-    check("01's input: accepted", load(input, SURFACE, WORK) == 0);
-    check("01's input: 4 rows and 2 declarations", answers(2, 4, 2));
-    check("01's input: every word", hold(surface_rows, SURFACE, core_rows, records, WORK));
+    check("kinds of rows", COUNT_FROM_ONE(kinds));
+    check("classes", COUNT_FROM_ONE(classes) && SULYTEROM_ACCEPTED == 0);
+    check("kinds of declarations", COUNT_FROM_ONE(declaration_kinds));
+    check("sizes", SULYTEROM_ROW_WORDS == 8 && SULYTEROM_RECORD_WORDS == 5 && SULYTEROM_WORK_WORDS == WORK);
 
-    check("31 words of surface rows: 8", load(input, 31, WORK) == 8 && answers(0, 0, 0));
-    check("31 words of surface rows: all 0", hold(nothing, 31, nothing, nothing, WORK));
-    check("a word that was not lent", surface[31] == 0xa5a5a5a5u);
+    accepts("01's input: 4 rows and 2 declarations", input, 4, 2);
+    check("01's input: every word", hold(whole, surface_rows, core_rows, records));
+    accepts("the head alone", HEAD, 0, 0);
+    check("the head alone: all 0", hold(whole, nothing, nothing, nothing));
+    accepts("65,535 bytes", padded(SULYTEROM_LONGEST_SOURCE), 0, 0);
 
-    check("an open parenthesis: 1 at 1", load("(", SURFACE, WORK) == 1 && answers(1, 1, 0));
-    check("an open parenthesis: all 0", hold(nothing, SURFACE, nothing, nothing, WORK));
+    refuses("an open parenthesis: 1 at 1", "(", whole, SULYTEROM_MALFORMED, 1);
+    refuses("a byte that is not UTF-8: 1 at 1", ";\xc3\n", whole, SULYTEROM_MALFORMED, 1);
+    refuses("the version 1 0: 2", "(surface 1 0) ]", whole, SULYTEROM_VERSION, -1);
+    refuses("a reserved name: 3 at 34", HEAD "(postulate nat-elim nat)", whole, SULYTEROM_RESERVED_NAME, 34);
+    refuses("a name used before: 4", HEAD "(postulate a nat)(postulate a (ref q))", whole, SULYTEROM_DUPLICATE_NAME,
+            -1);
+    refuses("an unknown name: 5", HEAD "(postulate a (ref q))(postulate a nat)", whole, SULYTEROM_UNKNOWN_NAME, -1);
+    refuses("65,536 bytes: 6", padded(LONG), whole, SULYTEROM_LONG_SOURCE, -1);
+    refuses("512 frames, and 5 rows for all they hold: 8", nested(SULYTEROM_MOST_FRAMES), whole,
+            SULYTEROM_SURFACE_FULL, -1);
+    refuses("513 frames: 7", nested(SULYTEROM_MOST_FRAMES + 1), whole, SULYTEROM_FRAMES, -1);
 
-    check("a short work area: 11", load(input, SURFACE, WORK - 1) == 11 && answers(0, 0, 0));
-    check("a short work area: all 0", hold(nothing, SURFACE, nothing, nothing, WORK - 1));
+    lengths lent = whole;
+    lent.surface = 31;
+    refuses("31 words of surface rows: 8", input, lent, SULYTEROM_SURFACE_FULL, -1);
+    lent = whole;
+    lent.declarations = 9;
+    refuses("9 words of declarations: 9", input, lent, SULYTEROM_DECLARATIONS_FULL, -1);
+    lent = whole;
+    lent.core = 31;
+    refuses("31 words of core rows: 10", input, lent, SULYTEROM_CORE_SHORT, -1);
+    lent = whole;
+    lent.work = WORK - 1;
+    refuses("a short work area: 11", input, lent, SULYTEROM_WORK_SHORT, -1);
+
+    check("y depends on x, by row 1", depends(input, 1, 0, whole) == 0 && answers(1, 1, 0));
+    check("a yes leaves what loading leaves", hold(whole, surface_rows, core_rows, records));
+    check("x does not depend on y", depends(input, 0, 1, whole) == 0 && answers(0, 0, 0));
+    check("a no leaves what loading leaves", hold(whole, surface_rows, core_rows, records));
+    check("nor does y on itself", depends(input, 1, 1, whole) == 0 && answers(0, 0, 0));
+    check("no third declaration: 12", depends(input, 2, 0, whole) == SULYTEROM_NO_DECLARATION && answers(0, 0, 0));
+    check("12 leaves 0", hold(whole, nothing, nothing, nothing));
+    check("nor as the second place: 12", depends(input, 0, 2, whole) == SULYTEROM_NO_DECLARATION);
+    check("nor at the last number: 12", depends(input, SIZE_MAX, SIZE_MAX, whole) == SULYTEROM_NO_DECLARATION);
+    check("loading comes first: 1 at 1", depends("(", 2, 2, whole) == SULYTEROM_MALFORMED && answers(1, 1, 0));
+    check("a refused load leaves 0", hold(whole, nothing, nothing, nothing));
+
+    memset(answer, 0xa5, sizeof answer);
+    check("room for two numbers: accepted",
+          sulyterom_load((const uint8_t *)input, strlen(input), surface, SURFACE, core, CORE, declarations,
+                         DECLARATIONS, work, WORK, answer, 2) == 0);
+    check("room for two numbers: the answer is left as it is", answer[0] == 0xa5a5a5a5a5a5a5a5u);
 
     printf("%d passed, %d failed\n", passed, failed);
     return failed != 0;

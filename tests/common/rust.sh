@@ -30,3 +30,9 @@ compiled() {
   rustc --edition "$rust_edition" -O -L "dependency=$out" "$@" -o "$output.new" "$source"
   mv "$output.new" "$output"
 }
+
+# station_crate: the Rust crate over target/staticlib/libstation.a, as libsulyterom.rlib.
+station_crate() {
+  compiled "$out/libsulyterom.rlib" rust/src/lib.rs "$(echo rust/src/*.rs) target/staticlib/libstation.a" \
+    --crate-type rlib --crate-name sulyterom -L native=target/staticlib
+}

@@ -28,7 +28,6 @@ pub fn load(source: &[u8], sizes: Sizes, rubbish: Rubbish) -> Loaded {
 }
 
 /// Asks whether declaration i depends on j.
-#[cfg(any(mock, depends))]
 pub fn depends(source: &[u8], places: [usize; 2], sizes: Sizes, rubbish: Rubbish) -> Loaded {
     lend(sizes, rubbish, |lent, answer| library::depends(source, places, lent, answer))
 }

@@ -72,10 +72,19 @@ pub fn push_arg(work: &mut [u32], depth: usize, id: u32) -> bool
     false
 }
 
-// Word i of the frame number depth, and 0 behind the end. The tests keep the sum from wrapping.
+// Word i of the frame number depth, and 0 behind the end. The tests of a frame that is there are the same for each of its words, so that
+// they are made once; the others keep the sum from wrapping.
 fn frame_word(work: &[u32], depth: usize, i: usize) -> u32
     ensures { λ r. ⌜ r ≡ getD (now (work .entry)) (depth * 11 + i) 0 ⌝ }
 {
+    if depth < FRAMES {
+        let at = depth * 11;
+        if at + 11 <= work.len() {
+            if i < 11 {
+                return work[at + i];
+            }
+        }
+    }
     if depth <= work.len() / 11 {
         if i <= work.len() {
             return tables::word_at(work, depth * 11 + i);

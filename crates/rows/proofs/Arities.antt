@@ -1,5 +1,5 @@
--- The arity of every kind and whether it has a span: the two tables, by one computed test each, and the kinds behind them. Assumes nothing.
-use Prim.Native.Nat.{ℕ, zero, suc, _+_, _≤_, _<_}
+-- The arity of every kind and whether it has a span: those of a table, by one computed test each, and the kinds behind them. Assumes nothing.
+use Prim.Native.Nat.{ℕ, zero, suc, _+_, _*_, _-_, _/_, _%_, _^_, _≤_, _<_}
 use mathlib.Core.Path.{_≡_, refl, sym, ap, _∙_}
 use mathlib.Core.Bool.{Bool, true, false, _&&_, and-eq-true-iff}
 use mathlib.Core.List.{List, [], _∷_}
@@ -7,7 +7,7 @@ use mathlib.Core.Option.{none}
 use native.Mathlib.Decide.{decLt}
 use native.Mathlib.Omega.{arith}
 use native.Mathlib.Nat.{add-zero, zero-add, not-suc-le-zero}
-use lib.Dec.{ltb, leb}
+use lib.Dec.{eqb, ltb, leb}
 use lib.ListN.{getD, replicate, getD-replicate}
 use borrow.Author.Tests.{ne-eqb, ltb-true, leb-true}
 use Rattle.terms.specs.Forms.{Form, forms, form-of-kind, arity-of, holds-span}
@@ -26,6 +26,17 @@ module _ {A : Type 0} (f : ℕ → A) where
   -- A list that computes to the values has each at its place.
   pub value-at : (l : List A) (d : A) (n k : ℕ) → l ≡ values 0 n → k < n → getD l k d ≡ f k
   value-at l d n k e h = ap (λ (l : List A). getD l k d) e ∙ value-from d 0 n k h ∙ ap f (zero-add k)
+
+-- Two functions with equal values at each number below n.
+pub same-value : {A : Type 0} (f g : ℕ → A) (d : A) (n k : ℕ) → values g 0 n ≡ values f 0 n → k < n → g k ≡ f k
+same-value f g d n k e h = sym (value-at g (values g 0 n) d n k refl h) ∙ value-at f (values g 0 n) d n k e h
+
+-- The arities as octal digits of a number, from kind 3 on, and the spans as its bits.
+pub arity-digit : (n k : ℕ) → values (λ j. n / 2 ^ (3 * (j - 3)) % 8) 0 25 ≡ values arity-of 0 25 → k < 25 → n / 2 ^ (3 * (k - 3)) % 8 ≡ arity-of k
+arity-digit n k e h = same-value arity-of (λ j. n / 2 ^ (3 * (j - 3)) % 8) 0 25 k e h
+
+pub span-bit : (n k : ℕ) → values (λ j. eqb (n / 2 ^ j % 2) 1) 0 25 ≡ values holds-span 0 25 → k < 25 → eqb (n / 2 ^ k % 2) 1 ≡ holds-span k
+span-bit n k e h = same-value holds-span (λ j. eqb (n / 2 ^ j % 2) 1) false 25 k e h
 
 -- A test that every form passes.
 abbrev every : (Form → Bool) → List Form → Bool

@@ -10,82 +10,32 @@ ghost use Rattle.terms.specs.Forms.{universe, arity-of, holds-span};
 ghost use Rattle.terms.specs.Rows.{row, surface-row};
 ghost use Rattle.rows.specs.Places.{has-place, stored-at};
 
-// How many arguments a term of each kind has, from kind 0 on.
-const ARITIES: [u32; 25] = [
-    0, // no kind
-    0, // var
-    0, // global
-    0, // universe
-    2, // pi
-    1, // lam
-    2, // app
-    2, // sigma
-    2, // pair
-    1, // fst
-    1, // snd
-    3, // id
-    1, // refl
-    6, // j
-    0, // empty
-    2, // empty-elim
-    0, // unit
-    0, // star
-    3, // unit-elim
-    0, // nat
-    0, // zero
-    1, // succ
-    4, // nat-elim
-    2, // ann
-    0, // ref
-];
+// How many arguments a term of each kind has: octal digits, the last one for kind 3. An array would be copied where it is read.
+const ARITIES: u64 = 0o241_003_002_061_311_222_120;
 
-// Whether its row has the start and length of a name or numeral.
-const SPANS: [bool; 25] = [
-    false, // no kind
-    false, // var
-    false, // global
-    true, // universe
-    true, // pi
-    true, // lam
-    false, // app
-    true, // sigma
-    false, // pair
-    false, // fst
-    false, // snd
-    false, // id
-    false, // refl
-    false, // j
-    false, // empty
-    false, // empty-elim
-    false, // unit
-    false, // star
-    false, // unit-elim
-    false, // nat
-    false, // zero
-    false, // succ
-    false, // nat-elim
-    false, // ann
-    true, // ref
-];
+// Whether a term of each kind has the start and length of a name or numeral in its row: bits, the last one for kind 0.
+const SPANS: u32 = 0b1_0000_0000_0000_0000_1011_1000;
 
 pub fn arity(kind: u32) -> u32
     ensures { λ r. ⌜ r ≡ arity-of kind ⌝ }
 {
-    let k = kind as usize;
-    if k < 25 {
-        return ARITIES[k];
+    if kind < 3 {
+        return 0;
     }
-    0
+    if 24 < kind {
+        return 0;
+    }
+    let digit = kind as u64 - 3;
+    ((ARITIES >> (3 * digit)) % 8) as u32
 }
 
 pub fn holds_span(kind: u32) -> bool
     ensures { λ r. ⌜ r ≡ holds-span kind ⌝ }
 {
-    let k = kind as usize;
-    if k < 25 {
-        return SPANS[k];
+    if 24 < kind {
+        return false;
     }
-    false
+    (SPANS >> kind) % 2 == 1
 }
 
 // Argument i of the first len; 0 where there is none.

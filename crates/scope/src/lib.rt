@@ -1,7 +1,9 @@
 // What a name refers to: a local, the innermost first, or else an earlier declaration. Names are parts of the source, compared by bytes.
 // The port of the lookups in `elaborate_term`, surface/elaborate.rs. Document 01, "The core module".
 ghost use mathlib.Core.Path.{_≡_};
-ghost use Prim.Native.Nat.{_≤_};
+ghost use Prim.Native.Nat.{_+_, _≤_};
+ghost use lib.Dec.{leb};
+ghost use lib.ListN.{length};
 ghost use Rattle.words.specs.Words.{same-bytes};
 ghost use Rattle.terms.specs.Label.{part};
 ghost use Rattle.terms.specs.Resolution.{find, core-of};
@@ -36,9 +38,23 @@ pub fn atom(s: &[u8], start: u32, length: u32) -> &[u8]
     }
 }
 
+fn ends_inside(s: &[u8], a: u32, n: u32) -> bool
+    ensures { λ r. ⌜ r ≡ leb (a + n) (length (now (s .entry))) ⌝ }
+{
+    a as usize + n as usize <= s.len()
+}
+
+// Names of other lengths are told apart without looking at a byte.
 pub fn same_name(s: &[u8], a: u32, n: u32, b: u32, m: u32) -> bool
     ensures { λ r. ⌜ r ≡ same-bytes (part (now (s .entry)) a n) (part (now (s .entry)) b m) ⌝ }
 {
+    if n != m {
+        if ends_inside(s, a, n) {
+            if ends_inside(s, b, m) {
+                return false;
+            }
+        }
+    }
     let x = atom(s, a, n);
     let y = atom(s, b, m);
     words::same_bytes(x, y)

@@ -1,2 +1,3 @@
 pub mod Utf8
 pub mod Pending
+pub mod Ascii

@@ -2,6 +2,9 @@
 ghost use mathlib.Core.Path.{_≡_};
 ghost use Rattle.utf8.specs.Utf8.{table-3-7, following, valid-length, byte-order-mark};
 ghost use Rattle.utf8.specs.Pending.{wanted, wanted-after};
+ghost use Rattle.utf8.specs.Ascii.{ascii, ascii-end, SameEnd};
+ghost use Prim.Native.Nat.{_+_, _≤_};
+ghost use lib.ListN.{length, take, drop};
 
 // What a sequence still wants: a byte from the first number to the second, and as many bytes 80..BF behind it as the third says.
 enum Pending {
@@ -51,19 +54,71 @@ fn next_byte(pending: Pending, b: u8) -> Pending
     }
 }
 
+// How many bytes are looked at together.
+const BLOCK: usize = 32;
+
+// Whether a block is ASCII: its greatest byte is. This loop becomes a few instructions on the whole block.
+fn ascii_block(s: &[u8], at: usize) -> bool
+    requires { ⌜ at + 32 ≤ length (now s) ⌝ }
+    ensures { λ r. ⌜ r ≡ ascii (take 32 (drop at (now (s .entry)))) ⌝ }
+{
+    let mut greatest = 0;
+    let mut i = 0;
+    while i < BLOCK {
+        let b = s[at + i];
+        if greatest < b {
+            greatest = b;
+        }
+        i += 1;
+    }
+    greatest < 0x80
+}
+
+// Behind the blocks of ASCII from `at` on.
+fn skip_blocks(s: &[u8], at: usize) -> usize
+    requires { ⌜ at ≤ length (now s) ⌝ }
+    ensures { λ r. ⌜ SameEnd (now (s .entry)) at r ⌝ }
+{
+    let n = s.len();
+    let mut i = at;
+    while BLOCK <= n - i {
+        if !ascii_block(s, i) {
+            return i;
+        }
+        i += BLOCK;
+    }
+    i
+}
+
+// The first byte from `at` on that is not ASCII, or the end.
+fn skip_ascii(s: &[u8], at: usize) -> usize
+    requires { ⌜ at ≤ length (now s) ⌝ }
+    ensures { λ r. ⌜ r ≡ ascii-end at (drop at (now (s .entry))) ⌝ }
+{
+    let mut i = skip_blocks(s, at);
+    while i < s.len() {
+        if 0x80 <= s[i] {
+            return i;
+        }
+        i += 1;
+    }
+    i
+}
+
 // The length of the longest beginning that is UTF-8: `valid_up_to` of Rust's `Utf8Error`, or the whole length.
 // Of the bytes before `i`, the first `good` are whole sequences.
 pub fn valid_up_to(s: &[u8]) -> usize
     ensures { λ r. ⌜ r ≡ valid-length (now (s .entry)) ⌝ }
 {
-    let mut good = 0;
+    let mut i = skip_ascii(s, 0);
+    let mut good = i;
     let mut pending = Pending::Nothing;
-    let mut i = 0;
     while i < s.len() {
         pending = next_byte(pending, s[i]);
         i += 1;
         match pending {
             Pending::Nothing => {
+                i = skip_ascii(s, i);
                 good = i;
             }
             Pending::Byte(_, _, _) => {}

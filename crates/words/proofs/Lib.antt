@@ -1,7 +1,7 @@
 mod Bytes
 mod Atoms
 mod Every
-mod Tables
+mod Numbers
 mod Lookup
 pub mod Names
 pub mod Reserved

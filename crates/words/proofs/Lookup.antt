@@ -1,88 +1,72 @@
--- What the tables say of an atom, each by a computed test of the whole table; there are 27 words. Assumes nothing.
-use Prim.Native.Nat.{ℕ, _+_, _-_, _≤_, _<_}
+-- The index of an atom from its number or its bytes, and 0 where it is none of the words that it could be. Assumes nothing.
+use Prim.Native.Nat.{ℕ, zero, suc, _<_}
 use mathlib.Core.Path.{_≡_, refl, sym, _∙_, ap}
-use mathlib.Core.Bool.{true, false, _||_}
-use mathlib.Core.List.{List, [], _∷_, flatten}
-use native.Mathlib.Omega.{arith}
+use mathlib.Core.Bool.{Bool, true, false, not, _&&_, _||_, and-eq-true-iff, false≢true}
+use mathlib.Core.List.{List, [], _∷_}
 use native.Mathlib.Decide.{ℕ-discrete}
-use lib.ListN.{length, getD, take, drop}
-use lib.Dec.{eqb, leb, ltb}
-use borrow.Author.Tests.{eqb-true, leb-true, ltb-true, ne-eqb}
+use lib.Dec.{eqb, ltb}
+use borrow.Author.Tests.{ltb-true, ne-eqb, eqb-true}
 use Rattle.words.specs.Words.{same-bytes, reserved-words, word-index}
+use Rattle.words.specs.Numbers.{number-of}
 use Rattle.words.proofs.Every.{Every, at}
-use Rattle.words.proofs.Names.{same-eq, same-ne}
+use Rattle.words.proofs.Names.{same-eq}
 use Rattle.words.proofs.Reserved.{word, word-of-index, index-of-word}
-use Rattle.words.proofs.Tables.{slot, slots, starts, text}
+use Rattle.words.proofs.Numbers.{Bytes, same-number}
 
-slots-low : Every (λ (i : ℕ). ltb (getD slots i 0) 28) 64
-unfolding slots reserved-words
-slots-low = record { computed = refl }
+index-is : (w : List ℕ) (k : ℕ) → k < 28 → w ≡ word k → k ≡ word-index w
+index-is w k h e = sym (ap word-index e ∙ index-of-word k h)
 
--- The slot of word k holds k: no two words have the same slot.
-slots-right : Every (λ (k : ℕ). eqb k 0 || eqb (getD slots (slot (word k)) 0) k) 28
-unfolding slots reserved-words
-slots-right = record { computed = refl }
+pub index-of-bytes : (w : List ℕ) (k : ℕ) → k < 28 → same-bytes w (word k) ≡ true → k ≡ word-index w
+index-of-bytes w k h e = index-is w k h (same-eq w (word k) e)
 
-starts-rise : Every (λ (k : ℕ). leb (getD starts k 0) (getD starts (k + 1) 0)) 28
-unfolding starts reserved-words
-starts-rise = record { computed = refl }
+abbrev all-bytes : List ℕ → Bool
+all-bytes [] = true
+all-bytes (b ∷ l) = ltb b 256 && all-bytes l
 
-starts-inside : Every (λ (k : ℕ). leb (getD starts (k + 1) 0) (length text)) 28
-unfolding starts text flatten reserved-words
-starts-inside = record { computed = refl }
+are-bytes : (l : List ℕ) → all-bytes l ≡ true → Bytes l
+are-bytes [] e i = ltb-true 0 256 refl
+are-bytes (b ∷ l) e zero = ltb-true b 256 (and-eq-true-iff (ltb b 256) (all-bytes l) .0 e .0)
+are-bytes (b ∷ l) e (suc i) = are-bytes l (and-eq-true-iff (ltb b 256) (all-bytes l) .0 e .1) i
 
-text-right : Every (λ (k : ℕ). same-bytes (take (getD starts (k + 1) 0 - getD starts k 0) (drop (getD starts k 0) text)) (word k)) 28
-unfolding starts text flatten reserved-words same-bytes
-text-right = record { computed = refl }
-
-words-short : Every (λ (k : ℕ). leb (length (word k)) 11) 28
+words-of-bytes : Every (λ (k : ℕ). all-bytes (word k)) 28
 unfolding reserved-words
-words-short = record { computed = refl }
+words-of-bytes = record { computed = refl }
 
--- Word k stands in the text from s to e.
-module _ (k s e : ℕ) (h : k < 28) (p : s ≡ getD starts k 0) (q : e ≡ getD starts (k + 1) 0) where
-  pub start-le : s ≤ e
-  start-le = rw (p, q) (leb-true (getD starts k 0) (getD starts (k + 1) 0) (at starts-rise k h))
+pub index-of-number : (w : List ℕ) (k : ℕ) → Bytes w → k < 28 → number-of w ≡ number-of (word k) → k ≡ word-index w
+index-of-number w k p h e = index-is w k h (same-number w (word k) p (are-bytes (word k) (at words-of-bytes k h)) e)
 
-  pub end-le : e ≤ length text
-  end-le = rw q (leb-true (getD starts (k + 1) 0) (length text) (at starts-inside k h))
+abbrev among : ℕ → List ℕ → Bool
+among k [] = false
+among k (j ∷ js) = eqb k j || among k js
 
-  pub part-is : take (e - s) (drop s text) ≡ word k
-  part-is = rw (p, q) (same-eq _ (word k) (at text-right k h))
+-- What is known of each of some words.
+abbrev pub Each : (ℕ → Type 0) → List ℕ → Type 0
+Each P [] = Unit {0}
+Each P (k ∷ ks) = Each P ks × P k
 
--- An atom is no reserved word where that it is one cannot be.
-none : (w : List ℕ) → ((word-index w ≡ 0 → ⊥) → ⊥) → 0 ≡ word-index w
-none w n = elim (ℕ-discrete (word-index w) 0) [ yes z ↦ sym z | no k ↦ absurd (n k) ]
+pub each-map : (P Q : ℕ → Type 0) → ((k : ℕ) → P k → Q k) → (ks : List ℕ) → Each P ks → Each Q ks
+each-map P Q f [] e = tt
+each-map P Q f (k ∷ ks) e = (each-map P Q f ks (e .0), f k (e .1))
 
-pub none-empty : (w : List ℕ) → length w ≡ 0 → 0 ≡ word-index w
-none-empty [] e = sym (index-of-word 0 (omega arith))
-none-empty (b ∷ l) e = absurd (omega arith)
+each-is : (P : ℕ → Type 0) (k : ℕ) (ks : List ℕ) → among k ks ≡ true → Each P ks → P k
+each-is P k [] a e = absurd (false≢true a)
+each-is P k (j ∷ js) a e = by (eqb k j) refl a (λ b. each-is P k js b (e .0))
+  where
+    by : (t : Bool) → eqb k j ≡ t → (t || among k js) ≡ true → (among k js ≡ true → P k) → P k
+    by true q a later = rw (eqb-true k j q) (e .1)
+    by false q a later = later a
 
-pub none-long : (w : List ℕ) → 11 < length w → 0 ≡ word-index w
-none-long w h =
-    none w (λ n.
-    let i = word-of-index w n in
-    let l : length (word (word-index w)) ≤ 11 = leb-true (length (word (word-index w))) 11 (at words-short (word-index w) (i .high)) in
-    omega (arith, ap length (i .same)))
+-- Whether word k is one of some words, or fails a test.
+abbrev pub covered : (List ℕ → Bool) → List ℕ → ℕ → Bool
+covered q ks k = eqb k 0 || (not (q (word k)) || among k ks)
 
--- An atom's slot holds the index k of a word, or 0.
-module _ (w : List ℕ) (k : ℕ) (f : k ≡ getD slots (slot w) 0) where
-  pub slot-low : k < 28
-  slot-low = rw f (ltb-true (getD slots (slot w) 0) 28 (at slots-low (slot w) (omega arith)))
-
-  slot-own : (word-index w ≡ 0 → ⊥) → k ≡ word-index w
-  slot-own n =
-      let i = word-of-index w n in
-      let m = word-index w in
-      f
-      ∙ ap (λ (v : List ℕ). getD slots (slot v) 0) (i .same)
-      ∙ eqb-true (getD slots (slot (word m)) 0) m (rw (ne-eqb m 0 n) at (at slots-right m (i .high)))
-
-  pub none-held : k ≡ 0 → 0 ≡ word-index w
-  none-held z = none w (λ n. n (sym (slot-own n) ∙ z))
-
-  pub held-same : same-bytes w (word k) ≡ true → k ≡ word-index w
-  held-same t = sym (ap word-index (same-eq w (word k) t) ∙ index-of-word k slot-low)
-
-  pub held-other : same-bytes w (word k) ≡ false → 0 ≡ word-index w
-  held-other t = none w (λ n. same-ne w (word k) t (word-of-index w n .same ∙ ap word (sym (slot-own n))))
+-- An atom that passes a test is none of the words if it is none of those that pass the test.
+pub none-of : (q : List ℕ → Bool) (ks : List ℕ) (w : List ℕ) → Every (covered q ks) 28 → q w ≡ true → Each (λ k. w ≡ word k → ⊥) ks → 0 ≡ word-index w
+none-of q ks w t e n =
+    elim (ℕ-discrete (word-index w) 0) [
+      | yes z ↦ sym z
+      | no m ↦
+          let i = word-of-index w m in
+          let p : q (word (word-index w)) ≡ true = ap q (sym (i .same)) ∙ e in
+          absurd (each-is (λ k. w ≡ word k → ⊥) (word-index w) ks (rw (ne-eqb (word-index w) 0 m, p) at (at t (word-index w) (i .high))) n (i .same))
+    ]

@@ -1,131 +1,16 @@
 // Atoms as words, each a part of the source: reserved words, identifiers, numerals, and equal names.
 // The port of `is_reserved`, `is_identifier` and the test of `parse_natural` in surface/parser.rs. Document 01, "The token".
 ghost use mathlib.Core.Path.{_≡_};
-ghost use mathlib.Core.List.{[], _∷_};
-ghost use Prim.Native.Nat.{_<_};
-ghost use lib.ListN.{getD};
+ghost use Prim.Native.Nat.{_≤_, _<_};
+ghost use lib.ListN.{length};
 ghost use Rattle.token.specs.Token.{digit};
-ghost use Rattle.words.specs.Words.{same-bytes, reserved-words, word-index, reserved, name-start, name-byte, identifier, numeral, name-test};
+ghost use Rattle.words.specs.Words.{same-bytes, word-index, reserved, name-start, name-byte, identifier, numeral, name-test};
+ghost use Rattle.words.specs.Numbers.{number-of};
 
 pub enum NameTest {
     Name,
     Reserved,
     NotIdentifier,
-}
-
-// The reserved words in their order, joined.
-const WORDS: [u8; 134] =
-    *b"surfacemodulepostulatetransparentopaquerefuniversepilamappsigmapairfstsndidrefljemptyempty-elimunitstarunit-elimnatzerosuccnat-elimann";
-
-// Word k, from 1, stands in WORDS from STARTS[k] to STARTS[k + 1].
-const STARTS: [u8; 29] = [
-    0, // no word
-    0, // surface
-    7, // module
-    13, // postulate
-    22, // transparent
-    33, // opaque
-    39, // ref
-    42, // universe
-    50, // pi
-    52, // lam
-    55, // app
-    58, // sigma
-    63, // pair
-    67, // fst
-    70, // snd
-    73, // id
-    75, // refl
-    79, // j
-    80, // empty
-    85, // empty-elim
-    95, // unit
-    99, // star
-    103, // unit-elim
-    112, // nat
-    115, // zero
-    119, // succ
-    123, // nat-elim
-    131, // ann
-    134, // the end
-];
-
-// The index of the word that may stand at a slot, 0 for none: no two words have the same slot.
-const SLOTS: [u8; 64] = [
-    17, // j
-    0,
-    0,
-    21, // star
-    2, // module
-    0,
-    23, // nat
-    0,
-    4, // transparent
-    8, // pi
-    0,
-    0,
-    0,
-    24, // zero
-    1, // surface
-    0,
-    0,
-    0,
-    0,
-    0,
-    19, // empty-elim
-    0,
-    0,
-    0,
-    0,
-    0,
-    5, // opaque
-    20, // unit
-    0,
-    0,
-    0,
-    0,
-    0,
-    0,
-    12, // pair
-    0,
-    6, // ref
-    0,
-    0,
-    26, // nat-elim
-    0,
-    9, // lam
-    0,
-    0,
-    7, // universe
-    14, // snd
-    13, // fst
-    0,
-    0,
-    27, // ann
-    16, // refl
-    10, // app
-    25, // succ
-    0,
-    0,
-    15, // id
-    18, // empty
-    0,
-    11, // sigma
-    0,
-    22, // unit-elim
-    3, // postulate
-    0,
-    0,
-];
-
-// The longest reserved word.
-const LONGEST: usize = 11;
-
-// A byte as an index.
-fn wide(x: u8) -> usize
-    ensures { λ r. ⌜ (r ≡ x) × (r < 256) ⌝ }
-{
-    x as usize
 }
 
 // Whether two atoms have equal bytes.
@@ -145,39 +30,87 @@ pub fn same_bytes(a: &[u8], b: &[u8]) -> bool
     true
 }
 
-// Whether an atom is word k of the reserved words, from 1; word 0 is the empty atom.
-fn is_word(w: &[u8], k: usize) -> bool
-    requires { ⌜ k < 28 ⌝ }
-    ensures { λ r. ⌜ r ≡ same-bytes (now (w .entry)) (getD ([] ∷ reserved-words) k []) ⌝ }
+// A short atom as a number: its bytes as digits of base 256, the first byte last, behind a digit 1.
+fn number(w: &[u8]) -> u64
+    requires { ⌜ length (now w) < 8 ⌝ }
+    ensures { λ r. ⌜ r ≡ number-of (now (w .entry)) ⌝ }
 {
-    // A constant is copied where it is read: one copy for both reads.
-    let starts = STARTS;
-    let start = wide(starts[k]);
-    let end = wide(starts[k + 1]);
-    same_bytes(w, &WORDS[start..end])
+    let mut number: u64 = 1;
+    let mut i = w.len();
+    while 0 < i {
+        i -= 1;
+        let byte = w[i] as u64;
+        number = number * 256 + byte;
+    }
+    number
+}
+
+// The place of an atom of fewer than eight bytes. A table of the words would be copied at each call.
+fn short_index(w: &[u8]) -> u8
+    requires { ⌜ length (now w) < 8 ⌝ }
+    ensures { λ r. ⌜ r ≡ word-index (now (w .entry)) ⌝ }
+{
+    let number = number(w);
+    match number {
+        0x16a => 17, // j
+        0x16970 => 8, // pi
+        0x16469 => 15, // id
+        0x1666572 => 6, // ref
+        0x16d616c => 9, // lam
+        0x1707061 => 10, // app
+        0x1747366 => 13, // fst
+        0x1646e73 => 14, // snd
+        0x174616e => 23, // nat
+        0x16e6e61 => 27, // ann
+        0x172696170 => 12, // pair
+        0x16c666572 => 16, // refl
+        0x174696e75 => 20, // unit
+        0x172617473 => 21, // star
+        0x16f72657a => 24, // zero
+        0x163637573 => 25, // succ
+        0x1616d676973 => 11, // sigma
+        0x17974706d65 => 18, // empty
+        0x1656c75646f6d => 2, // module
+        0x165757161706f => 5, // opaque
+        0x165636166727573 => 1, // surface
+        _ => 0,
+    }
+}
+
+// The place of a longer atom.
+fn long_index(w: &[u8]) -> u8
+    requires { ⌜ 8 ≤ length (now w) ⌝ }
+    ensures { λ r. ⌜ r ≡ word-index (now (w .entry)) ⌝ }
+{
+    if same_bytes(w, b"universe") {
+        return 7;
+    }
+    if same_bytes(w, b"nat-elim") {
+        return 26;
+    }
+    if same_bytes(w, b"postulate") {
+        return 3;
+    }
+    if same_bytes(w, b"unit-elim") {
+        return 22;
+    }
+    if same_bytes(w, b"empty-elim") {
+        return 19;
+    }
+    if same_bytes(w, b"transparent") {
+        return 4;
+    }
+    0
 }
 
 // The place of an atom among the reserved words, from 1; 0 for any other.
-// Its first byte, last byte and length leave one word to compare it with.
 pub fn word_index(w: &[u8]) -> u8
     ensures { λ r. ⌜ r ≡ word-index (now (w .entry)) ⌝ }
 {
-    let n = w.len();
-    if n == 0 {
-        return 0;
+    if w.len() < 8 {
+        return short_index(w);
     }
-    if n > LONGEST {
-        return 0;
-    }
-    let slot = (wide(w[0]) * 11 + wide(w[n - 1]) + n * 8) % 64;
-    let k = SLOTS[slot];
-    if k == 0 {
-        return 0;
-    }
-    if is_word(w, wide(k)) {
-        return k;
-    }
-    0
+    long_index(w)
 }
 
 pub fn is_reserved(w: &[u8]) -> bool

@@ -6,19 +6,23 @@ use borrow.Author.Needs.{needs}
 use lib.ListN.{length}
 use Rattle.utf8.specs.Utf8.{valid-length}
 use Rattle.utf8.specs.Pending.{wanted}
-use Rattle.utf8.proofs.Passed.{Passed, passed-whole, passed-open, passed-broken, passed-all}
+use Rattle.utf8.proofs.Runs.{run-low}
+use Rattle.utf8.proofs.Passed.{Passed, passed-whole, passed-open, passed-broken, passed-all, passed-run}
 use Rattle.utf8.proofs.valid_up_to.Statement.{statement}
 use Rattle.utf8.proofs.valid_up_to.Tie as tie
 
 abbrev Inv-loop : tie.InvT-loop
-Inv-loop s good₀ pending₀ i₀ good pending i = Passed s good i (wanted pending)
+Inv-loop s i₀ good₀ pending₀ i good pending = Passed s good i (wanted pending)
 
 abbrev μ-loop : tie.MeasureT-loop
-μ-loop s good₀ pending₀ i₀ good pending i = length s - i
+μ-loop s i₀ good₀ pending₀ i good pending = length s - i
+
+skip-ascii-requires : tie.Need-skip-ascii-requires Inv-loop μ-loop
+skip-ascii-requires c κs = omega arith
 
 loop-holds : tie.Need-loop-holds Inv-loop μ-loop
 unfolding valid-length wanted
-loop-holds c = record { rest = refl; whole = refl }
+loop-holds c = passed-run (c .skip-ascii .ensures) (record { rest = refl; whole = refl })
 
 shared-slice-read-next-byte : tie.Need-shared-slice-read-next-byte Inv-loop μ-loop
 shared-slice-read-next-byte c = omega arith
@@ -32,14 +36,18 @@ add-i c = omega arith
 enum-told : tie.Need-enum-told Inv-loop μ-loop
 enum-told c = search needs
 
+skip-ascii-requires-2 : tie.Need-skip-ascii-requires-2 Inv-loop μ-loop
+skip-ascii-requires-2 c κs = omega arith
+
 loop-less : tie.Need-loop-less Inv-loop μ-loop
-loop-less c = omega arith
+loop-less c = let low = run-low _ _ _ (c .skip-ascii2 .ensures) in omega arith
 
 loop-again : tie.Need-loop-again Inv-loop μ-loop
 unfolding wanted
 loop-again c =
-    let e = c .enum-told .given .1 in
-    rw e (passed-whole (c .before .before .before .before .before .loop .inv) (omega arith) (rw e at (c .before .before .next-byte .ensures)))
+    let o = c .before .before .before .before .before .before in
+    let e = c .before .enum-told .given .1 in
+    rw e (passed-run (c .skip-ascii2 .ensures) (passed-whole (o .loop .inv) (omega arith) (rw e at (c .before .before .before .next-byte .ensures))))
 
 enum-told-2 : tie.Need-enum-told-2 Inv-loop μ-loop
 enum-told-2 c = search needs
@@ -71,11 +79,13 @@ valid-up-to-spec =
     (tie.spec
     Inv-loop
     μ-loop
+    skip-ascii-requires
     loop-holds
     shared-slice-read-next-byte
     next-byte-requires
     add-i
     enum-told
+    skip-ascii-requires-2
     loop-less
     loop-again
     enum-told-2

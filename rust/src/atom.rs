@@ -1,0 +1,36 @@
+//! Parts of the source.
+use std::fmt;
+
+/// A name or a numeral, which is a part of the source.
+#[derive(Clone, Copy, Eq, Hash, PartialEq)]
+pub struct Atom<'a> {
+    /// The offset of its first byte.
+    pub start: usize,
+    /// Its bytes, in the source itself.
+    pub bytes: &'a [u8],
+}
+
+impl<'a> Atom<'a> {
+    /// The atom whose start and length stand in two words of a row or record.
+    pub(crate) fn new(source: &'a [u8], words: &[u32]) -> Self {
+        let (start, length) = (words[0] as usize, words[1] as usize);
+        Self { start, bytes: &source[start..start + length] }
+    }
+
+    /// Its text: letters, digits and `_` of ASCII.
+    pub fn as_str(&self) -> &'a str {
+        std::str::from_utf8(self.bytes).expect("an atom is ASCII")
+    }
+}
+
+impl fmt::Display for Atom<'_> {
+    fn fmt(&self, formatter: &mut fmt::Formatter<'_>) -> fmt::Result {
+        formatter.pad(self.as_str())
+    }
+}
+
+impl fmt::Debug for Atom<'_> {
+    fn fmt(&self, formatter: &mut fmt::Formatter<'_>) -> fmt::Result {
+        write!(formatter, "{} at {}", self.as_str(), self.start)
+    }
+}

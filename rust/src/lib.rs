@@ -1,0 +1,123 @@
+//! Loads hott-surface/0.1 sources into numbered core modules that a kernel can check.
+//!
+//! The work is done by the library `libstation.a`, in which every function is proved to do what a definition says. This
+//! crate adds what Rust expects: a [`Result`], views of rows and declarations as enums, tables that can be owned, lent
+//! and used again. It has no dependencies.
+//!
+//! ```
+//! use sulyterom::{Row, Tables, load};
+//!
+//! let source = b"(surface 0 1)(module m)(postulate x nat)(postulate y (pi x (ref x) (ref x)))";
+//! let mut tables = Tables::for_bytes(source.len());
+//! let loaded = load(source, &mut tables)?;
+//!
+//! let y = loaded.declaration(1).unwrap();
+//! assert_eq!(y.name.bytes, b"y");
+//! let Some(Row::Pi { domain, codomain }) = loaded.row(y.ty) else { panic!() };
+//! // The domain does not see the binder, so there x is the declaration.
+//! assert_eq!(loaded.row(domain), Some(Row::Global { place: 0 }));
+//! assert_eq!(loaded.row(codomain), Some(Row::Var { count: 0 }));
+//! # Ok::<(), sulyterom::Refusal>(())
+//! ```
+//!
+//! A source that cannot be loaded is refused with a class and, for some classes, an offset:
+//!
+//! ```
+//! # use sulyterom::{Class, Tables, load};
+//! let refusal = load(b"(surface 0 1)(module nat)", &mut Tables::new(10, 10)).unwrap_err();
+//! assert_eq!((refusal.class, refusal.offset), (Class::ReservedName, Some(21)));
+//! assert_eq!(refusal.to_string(), "refused 3 at 21: reserved word where a name must stand");
+//! ```
+//!
+//! # Building
+//!
+//! `rt staticlib station` in the repository makes `target/staticlib/libstation.a`, for x86-64 Linux, where the build
+//! looks for it. `SULYTEROM_LIBRARY_FOLDER` may name another folder, by an absolute path.
+#![warn(missing_docs)]
+
+mod atom;
+mod declaration;
+mod library;
+mod loaded;
+mod refusal;
+mod row;
+mod tables;
+
+pub use atom::Atom;
+pub use declaration::{Declaration, DeclarationKind};
+pub use loaded::Loaded;
+pub use refusal::{Class, Refusal};
+pub use row::{Row, SurfaceRow};
+pub use tables::Tables;
+
+/// Words of a row.
+pub const ROW_WORDS: usize = 8;
+/// Words of a declaration's record.
+pub const RECORD_WORDS: usize = 5;
+/// Words that the work area needs, whatever the source.
+pub const WORK_WORDS: usize = 16_384;
+/// Bytes of the longest source that is not refused with [`Class::LongSource`].
+pub const LONGEST_SOURCE: usize = 65_535;
+/// Forms that may be open at the same time in one type or body.
+pub const MOST_FRAMES: usize = 512;
+
+/// Loads a source into the tables.
+///
+/// The tables may hold anything before. After an acceptance they hold what [`Loaded`] shows, and 0 everywhere else;
+/// after a refusal every word is 0.
+///
+/// # Errors
+///
+/// A [`Refusal`], if the source is no module or if a table is too short for it. Where several apply, the order is that
+/// of document 01: 11; 6; not UTF-8; a byte order mark; 1, 2, 3, 7, 8, 9 as the source is read; 10; then for each
+/// declaration in turn 4 and 5.
+///
+/// ```
+/// use sulyterom::{Class, Tables, load};
+///
+/// let mut tables = Tables::new(1, 1);
+/// assert_eq!(load(b"(surface 0 1)(module m)(postulate x nat)", &mut tables)?.row_count(), 1);
+/// let refusal = load(b"(surface 0 1)(module m)(postulate x (succ zero))", &mut tables).unwrap_err();
+/// assert_eq!(refusal.class, Class::SurfaceFull);
+/// # Ok::<(), sulyterom::Refusal>(())
+/// ```
+pub fn load<'a, W>(source: &'a [u8], tables: &'a mut Tables<W>) -> Result<Loaded<'a>, Refusal>
+where
+    W: AsRef<[u32]> + AsMut<[u32]>,
+{
+    match library::load(source, tables.lend()) {
+        (0, [2, rows, declarations]) => Ok(Loaded::new(source, tables, rows as usize, declarations as usize)),
+        (class, answer) => Err(Refusal::from_numbers(class, answer)),
+    }
+}
+
+/// Asks whether the declaration at place `i` depends on the one at place `j`: the number of a row of `i`'s type or body
+/// that is a global `j`, or `None`.
+///
+/// The source is loaded first, and a yes or a no leaves the tables as [`load`] does.
+///
+/// # Errors
+///
+/// A [`Refusal`] of loading, or [`Class::NoDeclaration`] if `i` or `j` is not the place of a declaration; every word of
+/// the tables is then 0.
+///
+/// ```
+/// use sulyterom::{Class, Tables, depends};
+///
+/// let source = b"(surface 0 1)(module m)(postulate x nat)(postulate y (pi x (ref x) (ref x)))";
+/// let mut tables = Tables::for_bytes(source.len());
+/// assert_eq!(depends(source, 1, 0, &mut tables)?, Some(1));
+/// assert_eq!(depends(source, 0, 1, &mut tables)?, None);
+/// assert_eq!(depends(source, 0, 2, &mut tables).unwrap_err().class, Class::NoDeclaration);
+/// # Ok::<(), sulyterom::Refusal>(())
+/// ```
+pub fn depends<W>(source: &[u8], i: usize, j: usize, tables: &mut Tables<W>) -> Result<Option<usize>, Refusal>
+where
+    W: AsMut<[u32]>,
+{
+    match library::depends(source, i, j, tables.lend()) {
+        (0, [0, 0, 0]) => Ok(None),
+        (0, [1, row, 0]) => Ok(Some(row as usize)),
+        (class, answer) => Err(Refusal::from_numbers(class, answer)),
+    }
+}

@@ -1,0 +1,148 @@
+//! Refusals, and how they are shown.
+use std::error::Error;
+use std::fmt;
+
+/// Why a source was refused, by document 01's numbers.
+#[derive(Clone, Copy, Debug, Eq, Hash, Ord, PartialEq, PartialOrd)]
+#[repr(u8)]
+pub enum Class {
+    /// A byte, or a token, that does not fit; with the offset of its first byte.
+    Malformed = 1,
+    /// The version is not 0 1.
+    Version = 2,
+    /// A reserved word where a name must stand; with its offset.
+    ReservedName = 3,
+    /// An earlier declaration has the same name.
+    DuplicateName = 4,
+    /// A reference to no binder and no earlier declaration.
+    UnknownName = 5,
+    /// The source has over [`LONGEST_SOURCE`](crate::LONGEST_SOURCE) bytes.
+    LongSource = 6,
+    /// Over [`MOST_FRAMES`](crate::MOST_FRAMES) forms are open in one type or body.
+    Frames = 7,
+    /// The source has more terms than the surface table has rows.
+    SurfaceFull = 8,
+    /// The source has more declarations than the declaration list has records.
+    DeclarationsFull = 9,
+    /// The source has more terms than the core table has rows.
+    CoreShort = 10,
+    /// The work area has under [`WORK_WORDS`](crate::WORK_WORDS) words.
+    WorkShort = 11,
+    /// Dependence was asked of a place that is no declaration.
+    NoDeclaration = 12,
+}
+
+impl Class {
+    /// All classes, by number.
+    pub const ALL: [Self; 12] = [
+        Self::Malformed,
+        Self::Version,
+        Self::ReservedName,
+        Self::DuplicateName,
+        Self::UnknownName,
+        Self::LongSource,
+        Self::Frames,
+        Self::SurfaceFull,
+        Self::DeclarationsFull,
+        Self::CoreShort,
+        Self::WorkShort,
+        Self::NoDeclaration,
+    ];
+
+    /// Document 01's number.
+    pub const fn number(self) -> u8 {
+        self as u8
+    }
+}
+
+impl fmt::Display for Class {
+    fn fmt(&self, formatter: &mut fmt::Formatter<'_>) -> fmt::Result {
+        formatter.write_str(match self {
+            Self::Malformed => "malformed source",
+            Self::Version => "version other than 0 1",
+            Self::ReservedName => "reserved word where a name must stand",
+            Self::DuplicateName => "declaration name used before",
+            Self::UnknownName => "unknown name",
+            Self::LongSource => "source over 65,535 bytes",
+            Self::Frames => "more than 512 forms open in one term",
+            Self::SurfaceFull => "surface row table full",
+            Self::DeclarationsFull => "declaration list full",
+            Self::CoreShort => "core table has fewer rows than were read",
+            Self::WorkShort => "work area under 16,384 words",
+            Self::NoDeclaration => "no declaration at a place asked of",
+        })
+    }
+}
+
+/// A refused source: its class and, for [`Class::Malformed`] and [`Class::ReservedName`], an offset in the source.
+///
+/// It is shown as the listing shows it, with a sentence behind:
+///
+/// ```
+/// # use sulyterom::{Tables, load};
+/// let refusal = load(b"(surface 0 1) module", &mut Tables::new(0, 0)).unwrap_err();
+/// assert_eq!(refusal.to_string(), "refused 1 at 14: malformed source");
+/// let refusal = load(b"(surface 1 0)", &mut Tables::new(0, 0)).unwrap_err();
+/// assert_eq!(refusal.to_string(), "refused 2: version other than 0 1");
+/// ```
+#[derive(Clone, Copy, Debug, Eq, Hash, PartialEq)]
+pub struct Refusal {
+    /// What is wrong.
+    pub class: Class,
+    /// Where it is, counted in bytes from 0.
+    pub offset: Option<usize>,
+}
+
+impl Refusal {
+    /// A refusal as the library tells it: the class, how many values follow, and these.
+    pub(crate) fn from_numbers(number: u8, answer: [u64; 3]) -> Self {
+        let class = Class::ALL.into_iter().find(|class| class.number() == number);
+        let offset = match answer {
+            [0, 0, 0] => Some(None),
+            [1, at, 0] => Some(Some(at as usize)),
+            _ => None,
+        };
+        match (class, offset) {
+            (Some(class), Some(offset)) => Self { class, offset },
+            _ => unreachable!("the library's promise rules out {number} with {answer:?}"),
+        }
+    }
+}
+
+impl fmt::Display for Refusal {
+    fn fmt(&self, formatter: &mut fmt::Formatter<'_>) -> fmt::Result {
+        write!(formatter, "refused {}", self.class.number())?;
+        if let Some(at) = self.offset {
+            write!(formatter, " at {at}")?;
+        }
+        write!(formatter, ": {}", self.class)
+    }
+}
+
+impl Error for Refusal {}
+
+#[cfg(test)]
+mod tests {
+    use super::*;
+
+    #[test]
+    fn told_with_and_without_an_offset() {
+        let offset = |number, answer| Refusal::from_numbers(number, answer).offset;
+        assert_eq!(offset(1, [1, 65_535, 0]), Some(65_535));
+        assert_eq!(offset(3, [1, 0, 0]), Some(0));
+        assert_eq!(offset(4, [0, 0, 0]), None);
+        assert_eq!(Refusal::from_numbers(11, [0, 0, 0]).class, Class::WorkShort);
+    }
+
+    #[test]
+    #[should_panic(expected = "rules out 0 with [0, 0, 0]")]
+    fn no_refusal_has_number_0() {
+        Refusal::from_numbers(0, [0, 0, 0]);
+    }
+
+    #[test]
+    #[should_panic(expected = "rules out 5 with [2, 4, 2]")]
+    fn no_refusal_has_two_values() {
+        Refusal::from_numbers(5, [2, 4, 2]);
+    }
+}
