@@ -1,57 +1,20 @@
-//! The same-core question of the Rattle library `station` behind a safe function.
+//! The same-core question of the Rattle library `station` through the Rust crate, its answers as numbers again.
+use super::library::tables;
 use super::tables::Tables;
-
-// A slice passes as a pointer and then a length.
-unsafe extern "C" {
-    fn sulyterom_same(
-        first: *const u8,
-        first_length: usize,
-        second: *const u8,
-        second_length: usize,
-        surface1: *mut u32,
-        surface1_length: usize,
-        core1: *mut u32,
-        core1_length: usize,
-        declarations1: *mut u32,
-        declarations1_length: usize,
-        surface2: *mut u32,
-        surface2_length: usize,
-        core2: *mut u32,
-        core2_length: usize,
-        declarations2: *mut u32,
-        declarations2_length: usize,
-        work: *mut u32,
-        work_length: usize,
-        answer: *mut u64,
-        answer_length: usize,
-    ) -> u8;
-}
+use sulyterom::{Comparison, Refusal};
 
 /// The class, 0 for yes and no; the answer is 0 for a yes, 1 and a place for a no. The work area is that of `one`.
 pub fn same(sources: [&[u8]; 2], one: Tables<&mut [u32]>, other: Tables<&mut [u32]>, answer: &mut [u64; 3]) -> u8 {
-    let [first, second] = sources;
-    unsafe {
-        sulyterom_same(
-            first.as_ptr(),
-            first.len(),
-            second.as_ptr(),
-            second.len(),
-            one.surface.as_mut_ptr(),
-            one.surface.len(),
-            one.core.as_mut_ptr(),
-            one.core.len(),
-            one.declarations.as_mut_ptr(),
-            one.declarations.len(),
-            other.surface.as_mut_ptr(),
-            other.surface.len(),
-            other.core.as_mut_ptr(),
-            other.core.len(),
-            other.declarations.as_mut_ptr(),
-            other.declarations.len(),
-            one.work.as_mut_ptr(),
-            one.work.len(),
-            answer.as_mut_ptr(),
-            answer.len(),
-        )
-    }
+    let refused = |which: u64, refusal: Refusal| {
+        let numbers = refusal.offset.map_or([1, which, 0], |offset| [2, which, offset as u64]);
+        (refusal.class.number(), numbers)
+    };
+    let (class, numbers) = match sulyterom::same(sources[0], sources[1], &mut tables(one), &mut tables(other)) {
+        Comparison::Same => (0, [0; 3]),
+        Comparison::Different { declaration } => (0, [1, declaration as u64, 0]),
+        Comparison::FirstRefused(refusal) => refused(1, refusal),
+        Comparison::SecondRefused(refusal) => refused(2, refusal),
+    };
+    *answer = numbers;
+    class
 }
