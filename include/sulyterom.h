@@ -182,6 +182,22 @@ uint8_t sulyterom_depends(const uint8_t *source, size_t source_length, size_t i,
                           size_t declarations_length, uint32_t *work, size_t work_length, uint64_t *answer,
                           size_t answer_length);
 
+/* Asks whether two sources leave the same core: whether they agree in all but binder names, layout, comments and the
+   module names. Each source is loaded into its own set of tables, the first one first; one work area serves both.
+
+   Yes: returns 0 and leaves in answer 0, 0, 0. No: returns 0 and leaves 1, the place of the first declaration at which
+   the two part, 0; where one source is a beginning of the other, the number of its declarations. After both the tables
+   hold what loading leaves.
+
+   Refused: returns the class and leaves in answer 2, which source, 1 or 2, and the offset; or 1, which source, 0 where
+   there is no place. All tables, of both sets, are then 0. */
+uint8_t sulyterom_same(const uint8_t *first, size_t first_length, const uint8_t *second, size_t second_length,
+                       uint32_t *surface1, size_t surface1_length, uint32_t *core1, size_t core1_length,
+                       uint32_t *declarations1, size_t declarations1_length, uint32_t *surface2,
+                       size_t surface2_length, uint32_t *core2, size_t core2_length, uint32_t *declarations2,
+                       size_t declarations2_length, uint32_t *work, size_t work_length, uint64_t *answer,
+                       size_t answer_length);
+
 #ifdef __cplusplus
 }
 #endif

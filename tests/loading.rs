@@ -1,5 +1,6 @@
 //! Loading by the Rattle library against document 01 and the Rust:
-//! loading replay [FOLDER], card, compare [COUNT [SEED]], dependence [COUNT [SEED]], program EVERY PROGRAM.
+//! loading replay [FOLDER], card, compare [COUNT [SEED]], dependence [COUNT [SEED]], same [COUNT [SEED]],
+//! program EVERY PROGRAM.
 #[cfg(mock)]
 #[allow(dead_code)]
 mod faults;
@@ -20,6 +21,9 @@ mod loading {
     pub mod order;
     pub mod program;
     pub mod replay;
+    pub mod same;
+    #[cfg(not(mock))]
+    pub mod sameness;
     pub mod short;
     pub mod sizes;
     pub mod station;
@@ -37,10 +41,13 @@ fn main() -> ExitCode {
         Some("compare") => loading::compare::run(number(1, loading::compare::COUNT), number(2, 3) as u64),
         Some("program") if words.len() > 2 => loading::program::run(number(1, 1), &words[2..]),
         Some("dependence") => loading::dependence::run(number(1, loading::dependence::COUNT), number(2, 4) as u64),
+        Some("same") => loading::same::run(number(1, loading::same::COUNT), number(2, 5) as u64),
         #[cfg(mock)]
         Some("--faults") => print_all(&common::fault::LOADING),
         #[cfg(mock)]
         Some("--dependence-faults") => print_all(&common::fault::DEPENDENCE),
+        #[cfg(mock)]
+        Some("--same-faults") => print_all(&common::fault::SAME),
         #[cfg(mock)]
         Some("--listing-faults") => print_all(&common::fault::LISTING),
         #[cfg(mock)]
@@ -49,7 +56,7 @@ fn main() -> ExitCode {
         _ => loading::mock::listing::command(&words),
         #[cfg(not(mock))]
         _ => {
-            let counts = "compare [COUNT [SEED]] | dependence [COUNT [SEED]]";
+            let counts = "compare [COUNT [SEED]] | dependence [COUNT [SEED]] | same [COUNT [SEED]]";
             eprintln!("usage: loading replay [FOLDER] | card | {counts} | program EVERY PROGRAM");
             ExitCode::from(2)
         }

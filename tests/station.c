@@ -73,8 +73,14 @@ typedef struct {
 } lengths;
 static const lengths whole = {SURFACE, CORE, DECLARATIONS, WORK};
 
+/* The second source's. */
+static uint32_t surface2[SURFACE], core2[CORE], declarations2[DECLARATIONS];
+
 /* Every call finds rubbish. */
 static void fill(void) {
+    memset(surface2, 0xa5, sizeof surface2);
+    memset(core2, 0xa5, sizeof core2);
+    memset(declarations2, 0xa5, sizeof declarations2);
     memset(surface, 0xa5, sizeof surface);
     memset(core, 0xa5, sizeof core);
     memset(declarations, 0xa5, sizeof declarations);
@@ -94,6 +100,13 @@ static uint8_t depends(const char *source, size_t i, size_t j, lengths lent) {
                              declarations, lent.declarations, work, lent.work, answer, 3);
 }
 
+static uint8_t same(const char *first, const char *second) {
+    fill();
+    return sulyterom_same((const uint8_t *)first, strlen(first), (const uint8_t *)second, strlen(second), surface,
+                          SURFACE, core, CORE, declarations, DECLARATIONS, surface2, SURFACE, core2, CORE,
+                          declarations2, DECLARATIONS, work, WORK, answer, 3);
+}
+
 static int answers(uint64_t count, uint64_t first, uint64_t second) {
     return answer[0] == count && answer[1] == first && answer[2] == second;
 }
@@ -109,6 +122,11 @@ static int holds(const uint32_t *table, size_t length, size_t lent, const uint32
 static int hold(lengths lent, const uint32_t *rows, const uint32_t *resolved, const uint32_t *declared) {
     return holds(surface, SURFACE, lent.surface, rows) && holds(core, CORE, lent.core, resolved) &&
            holds(declarations, DECLARATIONS, lent.declarations, declared) && holds(work, WORK, lent.work, nothing);
+}
+
+static int second_hold(const uint32_t *rows, const uint32_t *resolved, const uint32_t *declared) {
+    return holds(surface2, SURFACE, SURFACE, rows) && holds(core2, CORE, CORE, resolved) &&
+           holds(declarations2, DECLARATIONS, DECLARATIONS, declared);
 }
 
 static void accepts(const char *what, const char *source, uint64_t rows, uint64_t declared) {
@@ -189,6 +207,23 @@ int main(void) {
     check("nor at the last number: 12", depends(input, SIZE_MAX, SIZE_MAX, whole) == SULYTEROM_NO_DECLARATION);
     check("loading comes first: 1 at 1", depends("(", 2, 2, whole) == SULYTEROM_MALFORMED && answers(1, 1, 0));
     check("a refused load leaves 0", hold(whole, nothing, nothing, nothing));
+
+    check("the same as itself", same(input, input) == 0 && answers(0, 0, 0));
+    check("a yes leaves what loading leaves", hold(whole, surface_rows, core_rows, records));
+    check("a yes leaves it for both", second_hold(surface_rows, core_rows, records));
+    check("a binder renamed", same(input, HEAD "(postulate x nat)(postulate y (pi z (ref x) (ref z)))") == 0 &&
+                                  answers(0, 0, 0));
+    check("another binder: at 1", same(input, HEAD "(postulate x nat)(postulate y (pi z (ref x) (ref x)))") == 0 &&
+                                      answers(1, 1, 0));
+    check("a no leaves what loading leaves", hold(whole, surface_rows, core_rows, records));
+    check("a beginning: at its end", same(HEAD "(postulate x nat)", input) == 0 && answers(1, 1, 0));
+    check("the second refused: 5", same(input, HEAD "(postulate a (ref q))") == SULYTEROM_UNKNOWN_NAME &&
+                                       answers(1, 2, 0));
+    check("a refusal leaves 0", hold(whole, nothing, nothing, nothing));
+    check("a refusal leaves 0 for both", second_hold(nothing, nothing, nothing));
+    check("the first refused: 1 at 1", same("(", "((") == SULYTEROM_MALFORMED && answers(2, 1, 1));
+    check("its refusal leaves 0 for both",
+          hold(whole, nothing, nothing, nothing) && second_hold(nothing, nothing, nothing));
 
     memset(answer, 0xa5, sizeof answer);
     check("room for two numbers: accepted",

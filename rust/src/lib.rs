@@ -36,6 +36,7 @@
 #![warn(missing_docs)]
 
 mod atom;
+mod comparison;
 mod declaration;
 mod library;
 mod loaded;
@@ -44,6 +45,7 @@ mod row;
 mod tables;
 
 pub use atom::Atom;
+pub use comparison::Comparison;
 pub use declaration::{Declaration, DeclarationKind};
 pub use loaded::Loaded;
 pub use refusal::{Class, Refusal};
@@ -120,4 +122,29 @@ where
         (0, [1, row, 0]) => Ok(Some(row as usize)),
         (class, answer) => Err(Refusal::from_numbers(class, answer)),
     }
+}
+
+/// Asks whether two sources leave the same core: whether they agree in all but binder names, layout, comments and the
+/// module names.
+///
+/// Each source is loaded into its own tables, the first one first. A yes or a no leaves both as [`load`] does; after a
+/// refusal every word of both is 0. The work area of `tables` serves both, and that of `others` is left as it is.
+///
+/// ```
+/// use sulyterom::{Comparison, Tables, same};
+///
+/// let (mut tables, mut others) = (Tables::new(9, 2), Tables::new(9, 2));
+/// let first = b"(surface 0 1)(module m)(postulate x (pi a nat (id nat (ref a) zero)))";
+/// let second = b"(surface 0 1)(module n)(postulate x (pi b nat (id nat (ref b) zero))) ; renamed";
+/// assert_eq!(same(first, second, &mut tables, &mut others), Comparison::Same);
+/// let third = b"(surface 0 1)(module m)(postulate x (pi a nat (id nat zero (ref a))))";
+/// assert_eq!(same(first, third, &mut tables, &mut others), Comparison::Different { declaration: 0 });
+/// ```
+pub fn same<V, W>(first: &[u8], second: &[u8], tables: &mut Tables<V>, others: &mut Tables<W>) -> Comparison
+where
+    V: AsMut<[u32]>,
+    W: AsMut<[u32]>,
+{
+    let (class, answer) = library::same(first, second, tables.lend(), others.lend());
+    Comparison::from_numbers(class, answer)
 }

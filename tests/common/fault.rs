@@ -154,6 +154,24 @@ pub const DEPENDENCE: [&str; 14] = [
     "yes-clears-the-tables",
 ];
 
+/// Of the same-core question.
+pub const SAME: [&str; 14] = [
+    "digits-not-compared",
+    "digits-by-place",
+    "names-by-length",
+    "names-by-place",
+    "kinds-not-compared",
+    "last-row-left-out",
+    "bodies-not-compared",
+    "counts-not-compared",
+    "parting-from-1",
+    "parting-at-the-last",
+    "second-refusal-first",
+    "first-tables-left",
+    "second-tables-left",
+    "no-clears-the-tables",
+];
+
 /// Of the program and the command that print the listing.
 pub const LISTING: [&str; 15] = [
     "no-newline-at-the-end",
@@ -177,7 +195,7 @@ pub fn fault() -> &'static str {
     static FAULT: OnceLock<String> = OnceLock::new();
     FAULT.get_or_init(|| {
         let name = std::env::var("FAULT").unwrap_or_default();
-        let known = [&TEXT[..], &LOADING, &DEPENDENCE, &LISTING].concat();
+        let known = [&TEXT[..], &LOADING, &DEPENDENCE, &SAME, &LISTING].concat();
         assert!(name.is_empty() || known.contains(&name.as_str()), "no fault is called {name}");
         name
     })

@@ -9,8 +9,14 @@ type Around<'a> = Vec<(&'a str, Vec<usize>)>;
 
 /// "There must be equally many declarations, and the first agrees with the first .. and so on".
 pub fn agree(left: &Module, right: &Module) -> bool {
-    let declarations = left.declarations.iter().zip(&right.declarations);
-    left.declarations.len() == right.declarations.len() && declarations.clone().all(|(a, b)| declarations_agree(a, b))
+    parting(left, right).is_none()
+}
+
+/// The first place at which two declarations do not agree, or only one module has one; None where the modules agree.
+pub fn parting(left: &Module, right: &Module) -> Option<usize> {
+    let pairs = left.declarations.iter().zip(&right.declarations);
+    let agreeing = pairs.take_while(|(a, b)| declarations_agree(a, b)).count();
+    (agreeing < left.declarations.len().max(right.declarations.len())).then_some(agreeing)
 }
 
 /// "equal kind, equal name bytes, types that agree, and bodies that agree where the kind has one"

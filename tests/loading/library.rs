@@ -16,7 +16,7 @@ pub fn depends(source: &[u8], [i, j]: [usize; 2], lent: Tables<&mut [u32]>, answ
     numbers(shown, answer)
 }
 
-fn tables(lent: Tables<&mut [u32]>) -> sulyterom::Tables<&mut [u32]> {
+pub fn tables(lent: Tables<&mut [u32]>) -> sulyterom::Tables<&mut [u32]> {
     let Tables { surface, core, declarations, work } = lent;
     sulyterom::Tables { surface, core, declarations, work }
 }

@@ -4,6 +4,7 @@ mod dependence;
 pub mod listing;
 mod reading;
 mod resolving;
+pub mod sameness;
 mod words;
 
 use super::tables::{RECORD, ROW, Tables, WORK};

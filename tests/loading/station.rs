@@ -3,6 +3,10 @@
 use super::library;
 #[cfg(mock)]
 use super::mock as library;
+#[cfg(mock)]
+use super::mock::sameness;
+#[cfg(not(mock))]
+use super::sameness;
 use super::tables::{Rubbish, Sizes, Tables};
 
 pub struct Loaded {
@@ -26,6 +30,17 @@ pub fn load(source: &[u8], sizes: Sizes, rubbish: Rubbish) -> Loaded {
 /// Asks whether declaration i depends on j.
 pub fn depends(source: &[u8], places: [usize; 2], sizes: Sizes, rubbish: Rubbish) -> Loaded {
     lend(sizes, rubbish, |lent, answer| library::depends(source, places, lent, answer))
+}
+
+/// Asks whether two sources leave the same core. The work area is the first set's; the answer stands with both.
+pub fn same(sources: [&[u8]; 2], sizes: [Sizes; 2], rubbish: Rubbish) -> [Loaded; 2] {
+    let mut second = None;
+    let first = lend(sizes[0], rubbish, |one, answer| {
+        let other = Tables { work: 0, ..sizes[1] };
+        second.insert(lend(other, rubbish, |other, _| sameness::same(sources, one, other, answer))).class
+    });
+    let second = second.expect("the call lends both sets");
+    [first, second]
 }
 
 fn lend(sizes: Sizes, rubbish: Rubbish, call: impl FnOnce(Tables<&mut [u32]>, &mut [u64; 3]) -> u8) -> Loaded {

@@ -46,7 +46,7 @@ fn find_global(core: &[u32], from: usize, to: usize, j: usize) -> Dependence
 }
 
 // The row behind those of declaration i. Its body's row is its last, or its type's where there is no body, whose row is then 0.
-fn row_behind(declarations: &[u32], i: usize) -> usize
+pub fn row_behind(declarations: &[u32], i: usize) -> usize
     ensures { λ r. ⌜ r ≡ row-behind (now (declarations .entry)) i ⌝ }
 {
     if declarations.len() / 5 < i {
@@ -60,7 +60,7 @@ fn row_behind(declarations: &[u32], i: usize) -> usize
     type_row as usize + 1
 }
 
-fn first_row(declarations: &[u32], i: usize) -> usize
+pub fn first_row(declarations: &[u32], i: usize) -> usize
     ensures { λ r. ⌜ r ≡ first-row (now (declarations .entry)) i ⌝ }
 {
     if i == 0 {

@@ -1,42 +1,43 @@
 -- The form and the declaration's kind of a word, by its index among the reserved words. Assumes nothing.
-use Prim.Native.Nat.{ℕ, _<_}
+use Prim.Native.Nat.{ℕ, zero, suc, _+_, _*_, _-_, _/_, _%_, _^_, _≤_, _<_}
 use mathlib.Core.Path.{_≡_, refl, sym, _∙_, ap}
 use mathlib.Core.Bool.{Bool, true, false, _&&_}
-use mathlib.Core.List.{List, [], _∷_, map}
+use mathlib.Core.List.{List, [], _∷_}
 use mathlib.Core.Option.{none}
 use native.Mathlib.Omega.{arith}
 use native.Mathlib.Decide.{ℕ-discrete}
-use lib.ListN.{getD, List·getD-map}
 use Rattle.words.specs.Words.{ascii, same-bytes, reserved-words, place-in, word-index, reserved}
 use Rattle.words.proofs.Names.{ne-same}
 use Rattle.words.proofs.Reserved.{word, word-of-index, reserved-index}
 use Rattle.terms.specs.Forms.{Form, forms, form-of-word}
 use Rattle.surface.specs.Reading.{declaration-kind}
-use Rattle.expects.specs.FormOfWord.{form-numbers}
+use Rattle.expects.specs.FormOfWord.{form-numbers, form-at}
 use Rattle.expects.proofs.Arities.{both}
 
 pub index-low : (w : List ℕ) (k : ℕ) → k ≡ word-index w → k < 28
 index-low w k e = elim (ℕ-discrete (word-index w) 0) [ yes z ↦ omega arith | no n ↦ rw e (word-of-index w n .high) ]
 
--- The numbers of the reserved words, by their index.
-abbrev pub table : (List ℕ → ℕ) → List ℕ
-table f = map f ([] ∷ reserved-words)
+-- What is the same for every word that is not reserved depends on the index alone.
+by-index : {A : Type 0} (f : List ℕ → A) → ((v : List ℕ) → word-index v ≡ 0 → f v ≡ f []) → (w : List ℕ) (k : ℕ) → k ≡ word-index w → f (word k) ≡ f w
+by-index f other w k e =
+    elim (ℕ-discrete (word-index w) 0) [
+      | yes z ↦ ap (λ (j : ℕ). f (word j)) (e ∙ z) ∙ sym (other w z)
+      | no n ↦ ap (λ (j : ℕ). f (word j)) e ∙ ap f (sym (word-of-index w n .same))
+    ]
 
--- A number that is 0 for every word that is not reserved stands in its table.
-module _ (f : List ℕ → ℕ) (other : (v : List ℕ) → word-index v ≡ 0 → f v ≡ 0) where
-  none-first : f [] ≡ 0
-  unfolding word-index place-in same-bytes reserved-words
-  none-first = other [] refl
+-- The values of f at n numbers from i on.
+abbrev pub values : (ℕ → ℕ) → ℕ → ℕ → List ℕ
+values f i zero = []
+values f i (suc n) = f i ∷ values f (suc i) n
 
-  at-word : (k : ℕ) → getD (table f) k 0 ≡ f (word k)
-  at-word k = ap (getD (table f) k) (sym none-first) ∙ List·getD-map f ([] ∷ reserved-words) k []
-
-  by-index : (w : List ℕ) → getD (table f) (word-index w) 0 ≡ f w
-  by-index w =
-      elim (ℕ-discrete (word-index w) 0) [
-        | yes z ↦ ap (λ (k : ℕ). getD (table f) k 0) z ∙ none-first ∙ sym (other w z)
-        | no n ↦ at-word (word-index w) ∙ ap f (sym (word-of-index w n .same))
-      ]
+-- Equal values are equal at each of these numbers.
+pub same-value : (f g : ℕ → ℕ) (i n k : ℕ) → values f i n ≡ values g i n → i ≤ k → k < i + n → f k ≡ g k
+same-value f g i zero k e l h = absurd (omega arith)
+same-value f g i (suc n) k e l h =
+    elim (ℕ-discrete k i) [
+      | yes q ↦ let r : f i ≡ g i = cc in cc
+      | no q ↦ same-value f g (suc i) n k (cc) (omega arith) (omega arith)
+    ]
 
 -- A word that is not reserved is none of the reserved ones.
 unlike : (w v : List ℕ) → word-index w ≡ 0 → reserved v ≡ true → same-bytes w v ≡ false
@@ -61,6 +62,14 @@ forms-reserved = refl
 form-other : (w : List ℕ) → word-index w ≡ 0 → form-numbers (form-of-word w forms) ≡ form-numbers none
 form-other w z = ap form-numbers (no-form w forms forms-reserved z)
 
+no-index : word-index [] ≡ 0
+unfolding word-index place-in same-bytes reserved-words
+no-index = refl
+
+pub form-by-index : (w : List ℕ) (k : ℕ) → k ≡ word-index w → form-at k ≡ form-numbers (form-of-word w forms)
+unfolding form-at
+form-by-index w k e = by-index (λ v. form-numbers (form-of-word v forms)) (λ v z. form-other v z ∙ sym (form-other [] no-index)) w k e
+
 declarations-reserved : (reserved (ascii "postulate") ≡ true) × (reserved (ascii "transparent") ≡ true) × (reserved (ascii "opaque") ≡ true)
 unfolding reserved word-index place-in same-bytes reserved-words
 declarations-reserved = (refl, refl, refl)
@@ -71,23 +80,16 @@ declaration-other w z =
     let d = declarations-reserved in
     rw (unlike w (ascii "postulate") z (d .0), unlike w (ascii "transparent") z (d .1), unlike w (ascii "opaque") z (d .2), declaration-kind)
 
--- The three numbers of the form of a word.
-abbrev pub form-kind : List ℕ → ℕ
-form-kind w = form-numbers (form-of-word w forms) .kind
+pub kind-by-index : (w : List ℕ) (k : ℕ) → k ≡ word-index w → declaration-kind (word k) ≡ declaration-kind w
+kind-by-index w k e = by-index declaration-kind (λ v z. declaration-other v z ∙ sym (declaration-other [] no-index)) w k e
 
-abbrev pub form-shape : List ℕ → ℕ
-form-shape w = form-numbers (form-of-word w forms) .shape
+-- The shapes and arities of the words from 7 on as octal digits of a number.
+module _ (n : ℕ) where
+  abbrev digit : ℕ → ℕ
+  digit k = n / 2 ^ (3 * (k - 7)) % 8
 
-abbrev pub form-arity : List ℕ → ℕ
-form-arity w = form-numbers (form-of-word w forms) .arity
+  pub shape-digit : (k : ℕ) → values digit 7 21 ≡ values (λ j. form-at j .shape) 7 21 → 7 ≤ k → k < 28 → digit k ≡ form-at k .shape
+  shape-digit k e l h = same-value digit (λ j. form-at j .shape) 7 21 k e l h
 
-pub form-at : (w : List ℕ) (k : ℕ) → k ≡ word-index w
-    → record { kind = getD (table form-kind) k 0; shape = getD (table form-shape) k 0; arity = getD (table form-arity) k 0 } ≡ form-numbers (form-of-word w forms)
-form-at w k e =
-    let a = ap (λ j. getD (table form-kind) j 0) e ∙ by-index form-kind (λ v z. ap (λ x. x .kind) (form-other v z)) w in
-    let b = ap (λ j. getD (table form-shape) j 0) e ∙ by-index form-shape (λ v z. ap (λ x. x .shape) (form-other v z)) w in
-    let d = ap (λ j. getD (table form-arity) j 0) e ∙ by-index form-arity (λ v z. ap (λ x. x .arity) (form-other v z)) w in
-    λ i. record { kind = a i; shape = b i; arity = d i }
-
-pub declaration-at : (w : List ℕ) (k : ℕ) → k ≡ word-index w → getD (table declaration-kind) k 0 ≡ declaration-kind w
-declaration-at w k e = ap (λ j. getD (table declaration-kind) j 0) e ∙ by-index declaration-kind declaration-other w
+  pub arity-digit : (k : ℕ) → values digit 7 21 ≡ values (λ j. form-at j .arity) 7 21 → 7 ≤ k → k < 28 → digit k ≡ form-at k .arity
+  arity-digit k e l h = same-value digit (λ j. form-at j .arity) 7 21 k e l h

@@ -1,7 +1,10 @@
 -- The form of a word as three numbers: how the answer of the code is read. Assumes nothing.
 use mathlib.Core.Option.{Option, none, some}
+use mathlib.Core.List.{[], _∷_}
 use Prim.Native.Nat.{ℕ}
-use Rattle.terms.specs.Forms.{Shape, alone, with-name, with-numeral, binding, plain, Form}
+use lib.ListN.{getD}
+use Rattle.words.specs.Words.{reserved-words}
+use Rattle.terms.specs.Forms.{Shape, alone, with-name, with-numeral, binding, plain, Form, forms, form-of-word}
 use Rattle.expects.specs.declared.FormOfWord.{FormOfWord}
 
 -- 0 is left for a word that has no form.
@@ -15,3 +18,7 @@ shape-number plain = 5
 abbrev pub form-numbers : Option Form → FormOfWord
 form-numbers none = record { kind = 0; shape = 0; arity = 0 }
 form-numbers (some f) = record { kind = f .kind; shape = shape-number (f .shape); arity = f .arity }
+
+-- The form of a reserved word by its index, from 1; word 0 is none.
+unfoldable pub form-at : ℕ → FormOfWord
+form-at k = form-numbers (form-of-word (getD ([] ∷ reserved-words) k []) forms)

@@ -276,13 +276,21 @@ fn put_place(place: Place, out: &mut [u8], at: usize) -> usize
 }
 
 // The line of a refusal.
+pub fn put_refusal_at(refusal: Refusal, out: &mut [u8], at: usize) -> usize
+    ensures { λ r. ⌜ now (out .exit) ≡ sets (now (out .entry)) at (refusal-line refusal) ⌝ }
+    ensures { λ r. ⌜ r ≡ length-in (now (out .entry)) (at + length (refusal-line refusal)) ⌝ }
+{
+    let place = refusal.place;
+    let mut pos = put(out, at, b"refused ");
+    pos = put_decimal(out, pos, refusal.class as u64);
+    pos = put_place(place, out, pos);
+    put_byte(out, pos, 10)
+}
+
+// The same from the buffer's beginning on.
 pub fn put_refusal(refusal: Refusal, out: &mut [u8]) -> usize
     ensures { λ r. ⌜ now (out .exit) ≡ with-text (now (out .entry)) (refusal-line refusal) ⌝ }
     ensures { λ r. ⌜ r ≡ length-in (now (out .entry)) (length (refusal-line refusal)) ⌝ }
 {
-    let place = refusal.place;
-    let mut pos = put(out, 0, b"refused ");
-    pos = put_decimal(out, pos, refusal.class as u64);
-    pos = put_place(place, out, pos);
-    put_byte(out, pos, 10)
+    put_refusal_at(refusal, out, 0)
 }

@@ -1,12 +1,13 @@
 -- What `byte-class` gives, from facts about the byte. Assumes nothing.
 use Prim.Native.Nat.{ℕ, _≤_, _<_}
-use mathlib.Core.Path.{_≡_, sym, ap}
-use mathlib.Core.Bool.{Bool, false, _||_, cond}
+use mathlib.Core.Path.{_≡_, refl, sym, _∙_, ap}
+use mathlib.Core.Bool.{Bool, true, false, _||_, cond, true≢false}
 use native.Mathlib.Omega.{arith}
 use native.Mathlib.Decide.{ℕ-discrete}
+use lib.Dec.{eqb}
 use borrow.Author.Tests.{ne-eqb}
-use Rattle.token.specs.Token.{byte-class, letter, digit}
-use Rattle.token.specs.declared.ByteClass.the-variants.{Layout, Atom, Refused}
+use Rattle.token.specs.Token.{byte-class, letter, digit, layout-byte, atom-byte}
+use Rattle.token.specs.declared.ByteClass.the-variants.{Layout, Comment, LParen, RParen, Atom, Refused}
 
 abbrev pub in-range : ℕ → Bool
 in-range b = letter b || (digit b || false)
@@ -25,3 +26,46 @@ by-range b h9 h10 h13 h32 h59 h40 h41 h45 h95 =
 pub nine-ten : (b : ℕ) → 9 ≤ b → b < 11 → Layout ≡ byte-class b
 unfolding byte-class
 nine-ten b l h = elim (ℕ-discrete b 9) [ yes e ↦ ap byte-class (sym e) | no n ↦ ap byte-class (sym (let q : b ≡ 10 = omega arith in q)) ]
+
+apart : _≡_ {A = ℕ} 0 1 → ⊥
+apart z = omega arith
+
+-- An atom byte is none of the single bytes that are told before it.
+pub atom-class : (b : ℕ) → atom-byte b ≡ true → byte-class b ≡ Atom
+unfolding byte-class
+atom-class b e =
+    let other : (k : ℕ) → atom-byte k ≡ false → eqb b k ≡ false = λ k f. ne-eqb b k (λ q. true≢false (sym e ∙ ap atom-byte q ∙ f)) in
+    simp (other 9 refl, other 10 refl, other 13 refl, other 32 refl, other 59 refl, other 40 refl, other 41 refl, e)
+
+-- The class Atom is given by the last test.
+atom-last : (l c o p a : Bool) → cond l Layout (cond c Comment (cond o LParen (cond p RParen (cond a Atom Refused)))) ≡ Atom → a ≡ true
+atom-last true c o p a e = cc
+atom-last false true o p a e = cc
+atom-last false false true p a e = cc
+atom-last false false false true a e = cc
+atom-last false false false false true e = refl
+atom-last false false false false false e = cc
+
+pub not-atom-class : (b : ℕ) → atom-byte b ≡ false → byte-class b ≡ Atom → ⊥
+unfolding byte-class
+not-atom-class b f e = true≢false (sym (atom-last (layout-byte b) (eqb b 59) (eqb b 40) (eqb b 41) (atom-byte b) e) ∙ f)
+
+-- Behind the space, only `;` goes on with layout.
+pub late-class : (b : ℕ) → 32 < b → Not b 59 → (byte-class b ≡ Layout → ⊥) × (byte-class b ≡ Comment → ⊥)
+unfolding byte-class
+late-class b h n =
+    let e : byte-class b ≡ cond (eqb b 40) LParen (cond (eqb b 41) RParen (cond (atom-byte b) Atom Refused)) =
+    simp (ne-eqb b 9 (λ q. omega arith), ne-eqb b 10 (λ q. omega arith), ne-eqb b 13 (λ q. omega arith), ne-eqb b 32 (λ q. omega arith), ne-eqb b 59 n) in
+    (λ q. no-layout (eqb b 40) (eqb b 41) (atom-byte b) (sym e ∙ q), λ q. no-comment (eqb b 40) (eqb b 41) (atom-byte b) (sym e ∙ q))
+  where
+    no-layout : (o p a : Bool) → cond o LParen (cond p RParen (cond a Atom Refused)) ≡ Layout → ⊥
+    no-layout true p a q = apart cc
+    no-layout false true a q = apart cc
+    no-layout false false true q = apart cc
+    no-layout false false false q = apart cc
+
+    no-comment : (o p a : Bool) → cond o LParen (cond p RParen (cond a Atom Refused)) ≡ Comment → ⊥
+    no-comment true p a q = apart cc
+    no-comment false true a q = apart cc
+    no-comment false false true q = apart cc
+    no-comment false false false q = apart cc

@@ -1,3 +1,4 @@
 mod Classes
 pub mod Runs
+mod Comments
 pub mod Bounds

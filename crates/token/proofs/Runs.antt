@@ -6,7 +6,6 @@ use mathlib.Core.List.{List, _∷_}
 use native.Mathlib.Numerals.{add-one}
 use lib.ListN.{length, getD, drop, drop-of-length-le}
 use lib.Seq.{drop-cons}
-use borrow.Author.Tests.{eq-eqb, ne-eqb}
 use Rattle.token.specs.Token.{byte-class, layout-end, atom-from, token-here, next-token, token, malformed}
 use Rattle.token.specs.declared.ByteClass.{ByteClass}
 use Rattle.token.specs.declared.ByteClass.the-variants.{Layout, Comment, LParen, RParen, Atom, Refused}
@@ -23,14 +22,6 @@ module _ (s : List ℕ) (i : ℕ) (h : i < length s) where
   pub layout-comment : byte-class (getD s i 0) ≡ Comment → layout-end false i (drop i s) ≡ layout-end true (i + 1) (drop (i + 1) s)
   unfolding layout-end
   layout-comment e = rw (drop-next s i h, e, layout-end)
-
-  pub layout-newline : getD s i 0 ≡ 10 → layout-end true i (drop i s) ≡ layout-end false (i + 1) (drop (i + 1) s)
-  unfolding layout-end
-  layout-newline e = rw (drop-next s i h, eq-eqb (getD s i 0) 10 e, layout-end)
-
-  pub layout-in : (getD s i 0 ≡ 10 → ⊥) → layout-end true i (drop i s) ≡ layout-end true (i + 1) (drop (i + 1) s)
-  unfolding layout-end
-  layout-in e = rw (drop-next s i h, ne-eqb (getD s i 0) 10 e, layout-end)
 
   -- a byte that is no layout ends it
   pub layout-stop : (k : ByteClass) → byte-class (getD s i 0) ≡ k → (k ≡ Layout → ⊥) → (k ≡ Comment → ⊥) → layout-end false i (drop i s) ≡ i

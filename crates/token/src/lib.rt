@@ -3,7 +3,8 @@
 ghost use mathlib.Core.Path.{_≡_};
 ghost use mathlib.Core.Bool.{false};
 ghost use lib.ListN.{drop};
-ghost use Rattle.token.specs.Token.{byte-class, layout-end, atom-from, next-token};
+ghost use Rattle.token.specs.Token.{atom-byte, byte-class, layout-end, atom-from, next-token};
+ghost use Rattle.token.specs.Comments.{comment-end};
 
 // What a byte is for.
 pub enum ByteClass {
@@ -61,34 +62,58 @@ pub fn byte_class(b: u8) -> ByteClass
     }
 }
 
-// Where the layout that starts at `at` ends.
+// Whether a byte makes atoms. Small letters, the most frequent, are told first.
+fn is_atom_byte(b: u8) -> bool
+    ensures { λ r. ⌜ r ≡ atom-byte b ⌝ }
+{
+    if 97 <= b {
+        return b <= 122;
+    }
+    if 65 <= b {
+        return b <= 90 || b == 95;
+    }
+    if 48 <= b {
+        return b <= 57;
+    }
+    b == 45
+}
+
+// Where the comment that `at` is in ends.
+fn comment_end(s: &[u8], at: usize) -> usize
+    ensures { λ r. ⌜ r ≡ comment-end at (drop at (now (s .entry))) ⌝ }
+{
+    let mut pos = at;
+    while pos < s.len() {
+        if s[pos] == 10 {
+            return pos;
+        }
+        pos += 1;
+    }
+    pos
+}
+
+// Where the layout that starts at `at` ends. Most bytes that end it are told by one test.
 pub fn skip_layout(s: &[u8], at: usize) -> usize
     ensures { λ r. ⌜ r ≡ layout-end false at (drop at (now (s .entry))) ⌝ }
 {
     let mut pos = at;
-    let mut comment = false;
     while pos < s.len() {
         let b = s[pos];
-        if comment {
-            if b == 10 {
-                comment = false;
-                pos += 1;
-            } else {
+        if 32 < b {
+            if b != 59 {
+                return pos;
+            }
+        }
+        let class = byte_class(b);
+        match class {
+            ByteClass::Layout => {
                 pos += 1;
             }
-        } else {
-            let class = byte_class(b);
-            match class {
-                ByteClass::Layout => {
-                    pos += 1;
-                }
-                ByteClass::Comment => {
-                    comment = true;
-                    pos += 1;
-                }
-                _ => {
-                    return pos;
-                }
+            ByteClass::Comment => {
+                pos = comment_end(s, pos + 1);
+            }
+            _ => {
+                return pos;
             }
         }
     }
@@ -101,23 +126,25 @@ pub fn lex_atom(s: &[u8], start: usize, at: usize) -> Lexed
 {
     let mut pos = at;
     while pos < s.len() {
-        let class = byte_class(s[pos]);
-        match class {
-            ByteClass::Atom => {
-                pos += 1;
-            }
-            ByteClass::Refused => {
-                return Lexed::Refused(Refusal {
-                    class: 1,
-                    place: Place::At(pos),
-                });
-            }
-            _ => {
-                return Lexed::Got(Token {
-                    kind: TokenKind::Atom,
-                    start: start,
-                    end: pos,
-                });
+        let b = s[pos];
+        if is_atom_byte(b) {
+            pos += 1;
+        } else {
+            let class = byte_class(b);
+            match class {
+                ByteClass::Refused => {
+                    return Lexed::Refused(Refusal {
+                        class: 1,
+                        place: Place::At(pos),
+                    });
+                }
+                _ => {
+                    return Lexed::Got(Token {
+                        kind: TokenKind::Atom,
+                        start: start,
+                        end: pos,
+                    });
+                }
             }
         }
     }
@@ -140,7 +167,11 @@ pub fn next_token(s: &[u8], at: usize) -> Lexed
             end: start,
         });
     }
-    let class = byte_class(s[start]);
+    let b = s[start];
+    if is_atom_byte(b) {
+        return lex_atom(s, start, start + 1);
+    }
+    let class = byte_class(b);
     match class {
         ByteClass::LParen => Lexed::Got(Token {
             kind: TokenKind::LParen,
@@ -152,7 +183,6 @@ pub fn next_token(s: &[u8], at: usize) -> Lexed
             start: start,
             end: start + 1,
         }),
-        ByteClass::Atom => lex_atom(s, start, start + 1),
         _ => Lexed::Refused(Refusal {
             class: 1,
             place: Place::At(start),

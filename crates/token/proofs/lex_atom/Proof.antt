@@ -7,6 +7,7 @@ use borrow.Author.Needs.{needs}
 use lib.ListN.{length, drop}
 use types.Run.{miss}
 use Rattle.token.specs.Token.{atom-from}
+use Rattle.token.proofs.Classes.{atom-class, not-atom-class}
 use Rattle.token.proofs.Runs.{atom-word, atom-other, atom-stop, atom-end}
 use Rattle.token.proofs.lex_atom.Statement.{statement}
 use Rattle.token.proofs.lex_atom.Tie as tie
@@ -20,14 +21,11 @@ abbrev μ-loop : tie.MeasureT-loop
 loop-holds : tie.Need-loop-holds Inv-loop μ-loop
 loop-holds c = refl
 
-shared-slice-read-byte-class : tie.Need-shared-slice-read-byte-class Inv-loop μ-loop
-shared-slice-read-byte-class c = search needs
+shared-slice-read-b : tie.Need-shared-slice-read-b Inv-loop μ-loop
+shared-slice-read-b c = search needs
 
-byte-class-requires : tie.Need-byte-class-requires Inv-loop μ-loop
-byte-class-requires c κs = search needs
-
-enum-told : tie.Need-enum-told Inv-loop μ-loop
-enum-told c = search needs
+is-atom-byte-requires : tie.Need-is-atom-byte-requires Inv-loop μ-loop
+is-atom-byte-requires c κs = search needs
 
 add-pos : tie.Need-add-pos Inv-loop μ-loop
 add-pos c = omega arith
@@ -37,24 +35,27 @@ loop-less c = omega arith
 
 loop-again : tie.Need-loop-again Inv-loop μ-loop
 loop-again c =
-    let g = c .before .before in
-    g .before .before .before .loop .inv ∙ atom-word _ _ (search needs) _ (sym (g .byte-class .ensures) ∙ c .enum-told .given .1)
+    let g = c .before in
+    g .before .before .before .loop .inv ∙ atom-word _ _ (search needs) _ (atom-class _ (sym (g .is-atom-byte .ensures) ∙ c .if1 .taken))
 
-enum-told-2 : tie.Need-enum-told-2 Inv-loop μ-loop
-enum-told-2 c = search needs
+byte-class-requires : tie.Need-byte-class-requires Inv-loop μ-loop
+byte-class-requires c κs = search needs
+
+enum-told : tie.Need-enum-told Inv-loop μ-loop
+enum-told c = search needs
 
 returns : tie.Need-returns Inv-loop μ-loop
 returns c =
     let g = c .before .before in
-    sym (g .before .before .before .loop .inv ∙ atom-other _ _ (search needs) _ (sym (g .byte-class .ensures) ∙ c .enum-told2 .given .1))
+    sym (g .before .before .before .before .before .loop .inv ∙ atom-other _ _ (search needs) _ (sym (g .byte-class .ensures) ∙ c .enum-told .given .1))
 
 returns-2 : tie.Need-returns-2 Inv-loop μ-loop
 returns-2 c =
     let g = c .before in
-    sym (g .before .before .before .loop .inv
+    sym (g .before .before .before .before .before .loop .inv
     ∙ atom-stop _ _ (search needs) _ (g .byte-class .result) (sym (g .byte-class .ensures))
-    (λ q. miss (0 ∷ 1 ∷ 2 ∷ 3 ∷ []) 4 tt (rw q at (c .match .keys3)))
-    (λ q. miss (0 ∷ 1 ∷ 2 ∷ 3 ∷ []) 5 tt (rw q at (c .match .keys3))))
+    (λ q. not-atom-class _ (sym (g .before .before .is-atom-byte .ensures) ∙ g .before .if1 .left) (sym (g .byte-class .ensures) ∙ q))
+    (λ q. miss (0 ∷ 1 ∷ 2 ∷ 3 ∷ 4 ∷ []) 5 tt (rw q at (c .match .keys2))))
 
 returns-3 : tie.Need-returns-3 Inv-loop μ-loop
 returns-3 c = sym (c .before .loop .inv ∙ atom-end _ _ _ (search needs))
@@ -66,13 +67,13 @@ lex-atom-spec =
     Inv-loop
     μ-loop
     loop-holds
-    shared-slice-read-byte-class
-    byte-class-requires
-    enum-told
+    shared-slice-read-b
+    is-atom-byte-requires
     add-pos
     loop-less
     loop-again
-    enum-told-2
+    byte-class-requires
+    enum-told
     returns
     returns-2
     returns-3)

@@ -1,12 +1,12 @@
--- `lines::put_refusal` meets its contract. Assumes nothing.
+-- `lines::put_refusal_at` meets its contract. Assumes nothing.
 use mathlib.Core.List.{[], _∷_}
 use borrow.Author.Needs.{needs}
 use Rattle.words.specs.Words.{ascii}
 use Rattle.text.specs.Text.{decimal}
-use Rattle.text.proofs.Writing.{piece, put-behind, _then_}
+use Rattle.text.proofs.Writing.{piece, ensured, _then_}
 use Rattle.lines.specs.Listing.{refusal-line, place-text}
-use Rattle.lines.proofs.put_refusal.Statement.{statement}
-use Rattle.lines.proofs.put_refusal.Tie as tie
+use Rattle.lines.proofs.put_refusal_at.Statement.{statement}
+use Rattle.lines.proofs.put_refusal_at.Tie as tie
 
 slice-aggregate-put : tie.Need-slice-aggregate-put
 slice-aggregate-put c = search needs
@@ -37,16 +37,14 @@ returns c =
     let c2 = c3 .before .before .before .before in
     let c1 = c2 .before .before .before .before .before in
     let a = c1 .before .before .before .before .args in
-    let b =
-    put-behind {out = a .out .now}
+    ensured (a .out .now) (a .at) (refusal-line (a .refusal))
     (piece (ascii "refused ") (c1 .put .ensures)
     then piece (decimal (a .refusal .class)) (c2 .put-decimal .ensures)
     then piece (place-text (a .refusal .place)) (c3 .put-place .ensures)
-    then piece (10 ∷ []) (c4 .put-byte .ensures)) in
-    (b .content, b .offset)
+    then piece (10 ∷ []) (c4 .put-byte .ensures))
 
-pub put-refusal-spec : {M : Type 1} → statement M
-put-refusal-spec =
+pub put-refusal-at-spec : {M : Type 1} → statement M
+put-refusal-at-spec =
     tie.close
     (tie.spec
     slice-aggregate-put
