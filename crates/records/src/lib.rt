@@ -101,7 +101,8 @@ pub fn write_records(words: &[u32], list: &mut [Declaration])
 {
     let mut k = 0;
     while k < list.len() {
-        list[k] = record_at(words, k);
+        let d = record_at(words, k);
+        put_declaration(list, k, d);
         k += 1;
     }
 }
@@ -112,7 +113,7 @@ pub fn write_words(list: &[Declaration], words: &mut [u32])
 {
     let mut k = 0;
     while k < list.len() {
-        let d = list[k];
+        let d = declaration_at(list, k);
         put_record(words, k, d);
         k += 1;
     }
