@@ -1,2 +1,2 @@
 mod Three
-mod Telling
+pub mod Telling

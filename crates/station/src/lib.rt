@@ -13,7 +13,7 @@ ghost use Rattle.terms.specs.Rows.{pad};
 ghost use lib.ListN.{length};
 ghost use Rattle.station.specs.Numbers.{class-number, answer-words, dependence-class, dependence-words, told, Tells};
 
-fn class_number(answer: Answer) -> u8
+pub fn class_number(answer: Answer) -> u8
     ensures { λ r. ⌜ r ≡ class-number answer ⌝ }
 {
     match answer {
@@ -34,7 +34,7 @@ fn place_words(place: Place) -> [u64; 3]
     }
 }
 
-fn answer_words(answer: Answer) -> [u64; 3]
+pub fn answer_words(answer: Answer) -> [u64; 3]
     ensures { λ r. ⌜ r ≡ answer-words answer ⌝ }
 {
     match answer {
@@ -47,7 +47,7 @@ fn answer_words(answer: Answer) -> [u64; 3]
 }
 
 // Three numbers at the beginning of a lent table, where there is room for them.
-fn tell(answer: &mut [u64], words: [u64; 3])
+pub fn tell(answer: &mut [u64], words: [u64; 3])
     ensures { λ r. ⌜ now (answer .exit) ≡ told (now (answer .entry)) words ⌝ }
 {
     if 3 <= answer.len() {
@@ -78,7 +78,7 @@ pub extern "C" fn sulyterom_load(
     class_number(loaded)
 }
 
-fn dependence_class(answer: Dependence) -> u8
+pub fn dependence_class(answer: Dependence) -> u8
     ensures { λ r. ⌜ r ≡ dependence-class answer ⌝ }
 {
     match answer {
@@ -88,7 +88,7 @@ fn dependence_class(answer: Dependence) -> u8
     }
 }
 
-fn dependence_words(answer: Dependence) -> [u64; 3]
+pub fn dependence_words(answer: Dependence) -> [u64; 3]
     ensures { λ r. ⌜ r ≡ dependence-words answer ⌝ }
 {
     match answer {

@@ -43,7 +43,8 @@ enum Rest {
 }
 
 fn print_next(s: &[u8], at: usize) -> Rest {
-    let lexed = token::next_token(s, at);
+    let read = lexer::lex(s, at);
+    let lexed = read.lexed;
     match lexed {
         Lexed::Refused(refusal) => {
             print_refusal(refusal);
@@ -54,7 +55,7 @@ fn print_next(s: &[u8], at: usize) -> Rest {
             let kind = t.kind;
             match kind {
                 TokenKind::Eof => Rest::Nothing,
-                _ => Rest::From(t.end),
+                _ => Rest::From(read.pos),
             }
         }
     }
