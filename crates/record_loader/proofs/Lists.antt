@@ -10,7 +10,7 @@ use lib.Seq.{getD-take, length-take-le, take-length}
 use borrow.Author.Tests.{ltb-true, ltb-false}
 use Rattle.terms.specs.Rows.{pad}
 use Rattle.terms.proofs.Tables.{length-pad}
-use Rattle.records.specs.Records.{blank, five-words, record-at, records-from, records-of}
+use Rattle.records.specs.Records.{blank, five-words, record-at, records-from, records-of, word-limit}
 use Rattle.records.proofs.Whole.{at-whole, at-behind, limit-below, limit-above}
 use Rattle.record_loader.specs.Recorded.{front}
 
@@ -80,3 +80,11 @@ module _ (l : List ℕ) (fits : length l ≤ 65535) (n : ℕ) (long : 13107 ≤ 
 
   pub padded-records : records-of (pad 65535 l) n ≡ records-of (pad (n * 5) l) n
   padded-records = same-from (pad 65535 l) (pad (n * 5) l) 0 n (λ k h. same-record k (omega arith) (ltb k 13107) refl)
+
+-- In as many words as fit, and in five for each record.
+pub fit-records : (l : List ℕ) → length l ≤ 65535 → (n : ℕ) → records-of (pad (word-limit n 65535) l) n ≡ records-of (pad (n * 5) l) n
+fit-records l fits n = by-test (ltb n 13107) refl
+  where
+    by-test : (b : Bool) → ltb n 13107 ≡ b → records-of (pad (word-limit n 65535) l) n ≡ records-of (pad (n * 5) l) n
+    by-test true e = ap (λ (d : ℕ). records-of (pad d l) n) (sym (limit-below n 65535 (ltb-true n 13107 e)))
+    by-test false e = let h : 13107 ≤ n = ltb-false n 13107 e in ap (λ (d : ℕ). records-of (pad d l) n) (sym (limit-above n 65535 h)) ∙ padded-records l fits n h
