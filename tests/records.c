@@ -19,6 +19,13 @@ uint8_t sulyterom_depends_records(const uint8_t *source, size_t source_length, s
                                   size_t declaration_count, uint32_t *work, size_t work_length, uint64_t *answer,
                                   size_t answer_length);
 
+uint8_t sulyterom_same_records(const uint8_t *first, size_t first_length, const uint8_t *second, size_t second_length,
+                               uint32_t *surface1, size_t surface1_length, uint32_t *core1, size_t core1_length,
+                               record *declarations1, size_t declaration1_count, uint32_t *surface2,
+                               size_t surface2_length, uint32_t *core2, size_t core2_length, record *declarations2,
+                               size_t declaration2_count, uint32_t *work, size_t work_length, uint64_t *answer,
+                               size_t answer_length);
+
 enum { ROWS = 8 * 4096, WORK = 16384, RECORDS = 20000, LONG = 65536 };
 
 /* What a call is lent and leaves; the last record is behind the list. */
@@ -29,7 +36,7 @@ typedef struct {
     uint8_t class;
 } call;
 
-static call words, records;
+static call words, records, words2, records2;
 static char text[LONG + 1];
 static int passed, failed;
 static const record rubbish = {9, 9, 9, 9, 9};
@@ -42,11 +49,11 @@ static void fill(call *c) {
     for (size_t k = 0; k <= RECORDS; k++) c->list[k] = rubbish;
 }
 
-static int same(size_t n) {
-    return words.class == records.class && !memcmp(words.answer, records.answer, sizeof words.answer) &&
-           !memcmp(words.surface, records.surface, sizeof words.surface) &&
-           !memcmp(words.core, records.core, sizeof words.core) && !memcmp(words.work, records.work, sizeof words.work) &&
-           !memcmp(words.list, records.list, n * sizeof(record)) && !memcmp(records.list + n, &rubbish, sizeof rubbish);
+static int same(const call *a, const call *b, size_t n) {
+    return a->class == b->class && !memcmp(a->answer, b->answer, sizeof a->answer) &&
+           !memcmp(a->surface, b->surface, sizeof a->surface) && !memcmp(a->core, b->core, sizeof a->core) &&
+           !memcmp(a->work, b->work, sizeof a->work) && !memcmp(a->list, b->list, n * sizeof(record)) &&
+           !memcmp(b->list + n, &rubbish, sizeof rubbish);
 }
 
 static void check(int holds, const char *what, size_t length, size_t n) {
@@ -66,7 +73,7 @@ static void loads(const char *source, size_t length, size_t n) {
                                  words.work, WORK, words.answer, 3);
     records.class = sulyterom_load_records(s, length, records.surface, ROWS, records.core, ROWS, records.list, n,
                                            records.work, WORK, records.answer, 3);
-    check(same(n), "loading", length, n);
+    check(same(&words, &records, n), "loading", length, n);
 }
 
 static void asks(const char *source, size_t length, size_t i, size_t j, size_t n) {
@@ -77,7 +84,22 @@ static void asks(const char *source, size_t length, size_t i, size_t j, size_t n
                                     words.work, WORK, words.answer, 3);
     records.class = sulyterom_depends_records(s, length, i, j, records.surface, ROWS, records.core, ROWS, records.list, n,
                                               records.work, WORK, records.answer, 3);
-    check(same(n), "a dependence", length, n);
+    check(same(&words, &records, n), "a dependence", length, n);
+}
+
+static void compares(const char *one, const char *other, size_t m, size_t n) {
+    const uint8_t *s = (const uint8_t *)one, *t = (const uint8_t *)other;
+    fill(&words);
+    fill(&words2);
+    fill(&records);
+    fill(&records2);
+    words.class = sulyterom_same(s, strlen(one), t, strlen(other), words.surface, ROWS, words.core, ROWS,
+                                 (uint32_t *)words.list, m * 5, words2.surface, ROWS, words2.core, ROWS,
+                                 (uint32_t *)words2.list, n * 5, words.work, WORK, words.answer, 3);
+    records.class = sulyterom_same_records(s, strlen(one), t, strlen(other), records.surface, ROWS, records.core, ROWS,
+                                           records.list, m, records2.surface, ROWS, records2.core, ROWS, records2.list, n,
+                                           records.work, WORK, records.answer, 3);
+    check(same(&words, &records, m) && same(&words2, &records2, n), "a comparison", strlen(one), m);
 }
 
 /* 13,107 records are as many as the words of the local array make. */
@@ -119,6 +141,13 @@ int main(void) {
             asks(input, length, i, j, 3);
             asks(input, length, i, j, 13108);
         }
+    }
+    for (size_t k = 0; k < sizeof others / sizeof others[0]; k++) {
+        compares(others[k], input, 2, 3);
+        compares(input, others[k], 3, 13108);
+        compares(input, input, 2, 3);
+        compares(input, input, 4, 3);
+        compares(others[k], others[k], 20000, 0);
     }
     static const size_t counts[] = {1, 255, 256, 257, 3000, 5000};
     for (size_t k = 0; k < sizeof counts / sizeof counts[0]; k++) {

@@ -1,5 +1,5 @@
 // The loader for stations to link: `rt staticlib station`, with include/sulyterom.h for C. Slices pass as a pointer and a length.
-mod sameness;
+pub mod sameness;
 
 use surface::Answer;
 use surface::Dependence;

@@ -11,7 +11,7 @@ ghost use Rattle.loader.specs.Leaving.{lengths-of};
 ghost use Rattle.same.specs.Comparison.{tables};
 ghost use Rattle.station.specs.Sameness.{comparison-class, comparison-words, TellsComparison};
 
-fn comparison_class(comparison: Comparison) -> u8
+pub fn comparison_class(comparison: Comparison) -> u8
     ensures { λ r. ⌜ r ≡ comparison-class comparison ⌝ }
 {
     match comparison {
@@ -32,7 +32,7 @@ fn refused_words(which: u64, place: Place) -> [u64; 3]
     }
 }
 
-fn comparison_words(comparison: Comparison) -> [u64; 3]
+pub fn comparison_words(comparison: Comparison) -> [u64; 3]
     ensures { λ r. ⌜ r ≡ comparison-words comparison ⌝ }
 {
     match comparison {
