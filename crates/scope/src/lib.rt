@@ -1,8 +1,7 @@
 // What a name refers to: a local, the innermost first, or else an earlier declaration. Names are parts of the source, compared by bytes.
 // The port of the lookups in `elaborate_term`, surface/elaborate.rs. Document 01, "The core module".
 ghost use mathlib.Core.Path.{_≡_};
-ghost use Prim.Native.Nat.{_+_, _≤_};
-ghost use lib.Dec.{leb};
+ghost use Prim.Native.Nat.{_*_, _≤_};
 ghost use lib.ListN.{length};
 ghost use Rattle.words.specs.Words.{same-bytes};
 ghost use Rattle.terms.specs.Label.{part};
@@ -38,26 +37,27 @@ pub fn atom(s: &[u8], start: u32, length: u32) -> &[u8]
     }
 }
 
-fn ends_inside(s: &[u8], a: u32, n: u32) -> bool
-    ensures { λ r. ⌜ r ≡ leb (a + n) (length (now (s .entry))) ⌝ }
+// Whether a part of the source is the name x: its length is compared before any byte, where the part lies in the source.
+fn is_name(s: &[u8], start: u32, length: u32, x: &[u8]) -> bool
+    ensures { λ r. ⌜ r ≡ same-bytes (now (x .entry)) (part (now (s .entry)) start length) ⌝ }
 {
-    a as usize + n as usize <= s.len()
+    let a = start as usize;
+    let n = length as usize;
+    if s.len() < a + n {
+        let y = atom(s, start, length);
+        return words::same_bytes(x, y);
+    }
+    if n != x.len() {
+        return false;
+    }
+    words::same_bytes(x, &s[a..a + n])
 }
 
-// Names of other lengths are told apart without looking at a byte.
 pub fn same_name(s: &[u8], a: u32, n: u32, b: u32, m: u32) -> bool
     ensures { λ r. ⌜ r ≡ same-bytes (part (now (s .entry)) a n) (part (now (s .entry)) b m) ⌝ }
 {
-    if n != m {
-        if ends_inside(s, a, n) {
-            if ends_inside(s, b, m) {
-                return false;
-            }
-        }
-    }
     let x = atom(s, a, n);
-    let y = atom(s, b, m);
-    words::same_bytes(x, y)
+    is_name(s, b, m, x)
 }
 
 // How many binders lie between a name and the innermost one of that name; at most 512 are in scope.
@@ -67,6 +67,7 @@ pub fn find_local(s: &[u8], work: &[u32], depth: usize, start: u32, length: u32)
     if 512 < depth {
         return Found::Nothing;
     }
+    let x = atom(s, start, length);
     let mut d = depth;
     let mut count: usize = 0;
     while 0 < d {
@@ -74,11 +75,47 @@ pub fn find_local(s: &[u8], work: &[u32], depth: usize, start: u32, length: u32)
         let i = d * 2;
         let a = tables::word_at(work, i);
         let n = tables::word_at(work, i + 1);
-        if same_name(s, start, length, a, n) {
+        if is_name(s, a, n, x) {
             let number = count as u32;
             return Found::At(number);
         }
         count += 1;
+    }
+    Found::Nothing
+}
+
+// The place of the first of d declarations that has the name x. A record that is not there has the empty name.
+fn find_listed(s: &[u8], declarations: &[u32], d: usize, x: &[u8]) -> Found
+    requires { ⌜ d ≤ 4294967295 ⌝ }
+    ensures { λ r. ⌜ place-of r ≡ find (now (x .entry)) (declared-names (now (s .entry)) (now (declarations .entry)) 0 d) ⌝ }
+{
+    let mut k: usize = 0;
+    while k < d {
+        let a = tables::word_at(declarations, k * 5 + 1);
+        let n = tables::word_at(declarations, k * 5 + 2);
+        if is_name(s, a, n, x) {
+            let place = k as u32;
+            return Found::At(place);
+        }
+        k += 1;
+    }
+    Found::Nothing
+}
+
+// The same where every record is there, so that no word has to be tested for.
+fn find_declared(s: &[u8], declarations: &[u32], d: usize, x: &[u8]) -> Found
+    requires { ⌜ (d * 5 ≤ length (now declarations)) × (d ≤ 4294967295) ⌝ }
+    ensures { λ r. ⌜ place-of r ≡ find (now (x .entry)) (declared-names (now (s .entry)) (now (declarations .entry)) 0 d) ⌝ }
+{
+    let mut i: usize = 0;
+    while i < d {
+        let a = declarations[i * 5 + 1];
+        let n = declarations[i * 5 + 2];
+        if is_name(s, a, n, x) {
+            let place = i as u32;
+            return Found::At(place);
+        }
+        i += 1;
     }
     Found::Nothing
 }
@@ -90,17 +127,11 @@ pub fn find_global(s: &[u8], declarations: &[u32], d: usize, start: u32, length:
     if 4294967295 < d {
         return Found::Nothing;
     }
-    let mut k: usize = 0;
-    while k < d {
-        let a = tables::word_at(declarations, k * 5 + 1);
-        let n = tables::word_at(declarations, k * 5 + 2);
-        if same_name(s, start, length, a, n) {
-            let place = k as u32;
-            return Found::At(place);
-        }
-        k += 1;
+    let x = atom(s, start, length);
+    if declarations.len() / 5 < d {
+        return find_listed(s, declarations, d, x);
     }
-    Found::Nothing
+    find_declared(s, declarations, d, x)
 }
 
 // "A local hides a declaration."

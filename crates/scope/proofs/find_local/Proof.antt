@@ -1,28 +1,31 @@
 -- `find_local` meets its contract: the binders passed do not have the name. Assumes nothing.
 use Prim.Native.Nat.{_+_, _≤_}
-use mathlib.Core.Path.{_≡_}
+use mathlib.Core.Path.{_≡_, ap, _∙_}
 use native.Mathlib.Omega.{arith}
 use borrow.Author.Needs.{needs}
-use Rattle.terms.specs.Label.{part}
+use Rattle.terms.specs.Label.{Name}
+use Rattle.terms.specs.Resolution.{find}
 use Rattle.scope.specs.Scope.{local-names}
 use Rattle.scope.proofs.Search.{Passed, passed-none, hit, miss, passed-all, compared, innermost, no-local}
 use Rattle.scope.proofs.find_local.Statement.{statement}
 use Rattle.scope.proofs.find_local.Tie as tie
 
 abbrev Inv-loop : tie.InvT-loop
-Inv-loop s work depth start length d₀ count₀ d count =
-    (count + d ≡ depth) × (depth ≤ 512) × Passed (part s start length) (local-names s work depth) count (local-names s work d)
+Inv-loop s work depth start length x d₀ count₀ d count = (count + d ≡ depth) × (depth ≤ 512) × Passed x (local-names s work depth) count (local-names s work d)
 
 abbrev μ-loop : tie.MeasureT-loop
-μ-loop s work depth start length d₀ count₀ d count = d
+μ-loop s work depth start length x d₀ count₀ d count = d
 
 returns : tie.Need-returns Inv-loop μ-loop
 returns c = λ h. absurd (omega arith)
 
+atom-requires : tie.Need-atom-requires Inv-loop μ-loop
+atom-requires c κs = search needs
+
 loop-holds : tie.Need-loop-holds Inv-loop μ-loop
 loop-holds c =
-    let a = c .before .before .before .args in
-    (omega arith, omega arith, passed-none (part (a .s .now) (a .start) (a .length)) (local-names (a .s .now) (a .work .now) (a .depth)))
+    let a = c .before .before .before .before .args in
+    (omega arith, omega arith, passed-none (c .atom .result .now) (local-names (a .s .now) (a .work .now) (a .depth)))
 
 sub-d : tie.Need-sub-d Inv-loop μ-loop
 sub-d c = omega arith
@@ -39,8 +42,8 @@ add-word-at c = omega arith
 word-at-requires-2 : tie.Need-word-at-requires-2 Inv-loop μ-loop
 word-at-requires-2 c κs = search needs
 
-same-name-requires : tie.Need-same-name-requires Inv-loop μ-loop
-same-name-requires c κs = search needs
+is-name-requires : tie.Need-is-name-requires Inv-loop μ-loop
+is-name-requires c κs = search needs
 
 cast-number : tie.Need-cast-number Inv-loop μ-loop
 cast-number c = omega arith
@@ -48,10 +51,11 @@ cast-number c = omega arith
 returns-2 : tie.Need-returns-2 Inv-loop μ-loop
 returns-2 c =
     let l = c .before .before .before .before .before in
-    let a = l .before .before .before .before .args in
-    let x = part (a .s .now) (a .start) (a .length) in
-    λ h. hit x _ _ _ (l .loop .inv .2) _ _ (innermost (a .s .now) (a .work .now) (l .loop .d) (omega arith))
-    (compared x (a .s .now) _ _ _ _ _ _ (c .before .before .before .word-at .ensures) (c .before .before .word-at2 .ensures) (c .before .same-name .ensures) (c .if2 .taken))
+    let x = l .before .atom in
+    let a = l .before .before .before .before .before .args in
+    λ h. hit (x .result .now) _ _ _ (l .loop .inv .2) _ _ (innermost (a .s .now) (a .work .now) (l .loop .d) (omega arith))
+    (compared (x .result .now) (a .s .now) _ _ _ _ _ _ (c .before .before .before .word-at .ensures) (c .before .before .word-at2 .ensures) (c .before .is-name .ensures) (c .if2 .taken))
+    ∙ ap (λ (v : Name). find v (local-names (a .s .now) (a .work .now) (a .depth))) (x .ensures)
 
 add-count : tie.Need-add-count Inv-loop μ-loop
 add-count c = omega arith
@@ -62,19 +66,21 @@ loop-less c = omega arith
 loop-again : tie.Need-loop-again Inv-loop μ-loop
 loop-again c =
     let l = c .before .before .before .before .before in
-    let a = l .before .before .before .before .args in
-    let x = part (a .s .now) (a .start) (a .length) in (
+    let x = l .before .atom .result .now in
+    let a = l .before .before .before .before .before .args in (
       omega arith,
       omega arith,
       miss x _ _ _ (l .loop .inv .2) _ _ (innermost (a .s .now) (a .work .now) (l .loop .d) (omega arith))
-          (compared x (a .s .now) _ _ _ _ _ _ (c .before .before .before .word-at .ensures) (c .before .before .word-at2 .ensures) (c .before .same-name .ensures) (c .if2 .left)),
+          (compared x (a .s .now) _ _ _ _ _ _ (c .before .before .before .word-at .ensures) (c .before .before .word-at2 .ensures) (c .before .is-name .ensures) (c .if2 .left)),
     )
 
 returns-3 : tie.Need-returns-3 Inv-loop μ-loop
 returns-3 c =
     let l = c .before in
-    let a = l .before .before .before .before .args in
-    λ h. passed-all (part (a .s .now) (a .start) (a .length)) _ _ _ (l .loop .inv .2) (no-local (a .s .now) (a .work .now) (l .loop .d) (omega arith))
+    let x = l .before .atom in
+    let a = l .before .before .before .before .before .args in
+    λ h. passed-all (x .result .now) _ _ _ (l .loop .inv .2) (no-local (a .s .now) (a .work .now) (l .loop .d) (omega arith))
+    ∙ ap (λ (v : Name). find v (local-names (a .s .now) (a .work .now) (a .depth))) (x .ensures)
 
 pub find-local-spec : {M : Type 1} → statement M
 find-local-spec =
@@ -83,13 +89,14 @@ find-local-spec =
     Inv-loop
     μ-loop
     returns
+    atom-requires
     loop-holds
     sub-d
     mul-i
     word-at-requires
     add-word-at
     word-at-requires-2
-    same-name-requires
+    is-name-requires
     cast-number
     returns-2
     add-count
