@@ -2,29 +2,13 @@
    the tables and every record must be equal, for lists of many lengths, and what lies behind the list must stay.
    The last line is 'N passed, M failed'. */
 #include "sulyterom.h"
+#include "sulyterom_records.h"
 
 #include <stdio.h>
 #include <stdlib.h>
 #include <string.h>
 
-typedef struct {
-    uint32_t kind, name_start, name_length, type_row, body_row;
-} record;
-
-uint8_t sulyterom_load_records(const uint8_t *source, size_t source_length, uint32_t *surface, size_t surface_length,
-                               uint32_t *core, size_t core_length, record *declarations, size_t declaration_count,
-                               uint32_t *work, size_t work_length, uint64_t *answer, size_t answer_length);
-uint8_t sulyterom_depends_records(const uint8_t *source, size_t source_length, size_t i, size_t j, uint32_t *surface,
-                                  size_t surface_length, uint32_t *core, size_t core_length, record *declarations,
-                                  size_t declaration_count, uint32_t *work, size_t work_length, uint64_t *answer,
-                                  size_t answer_length);
-
-uint8_t sulyterom_same_records(const uint8_t *first, size_t first_length, const uint8_t *second, size_t second_length,
-                               uint32_t *surface1, size_t surface1_length, uint32_t *core1, size_t core1_length,
-                               record *declarations1, size_t declaration1_count, uint32_t *surface2,
-                               size_t surface2_length, uint32_t *core2, size_t core2_length, record *declarations2,
-                               size_t declaration2_count, uint32_t *work, size_t work_length, uint64_t *answer,
-                               size_t answer_length);
+typedef sulyterom_declaration record;
 
 enum { ROWS = 8 * 4096, WORK = 16384, RECORDS = 20000, LONG = 65536 };
 
