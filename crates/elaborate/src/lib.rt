@@ -8,6 +8,7 @@ ghost use Rattle.terms.specs.Forms.{arity-of, holds-span};
 ghost use Rattle.terms.specs.Label.{Declaration};
 ghost use Rattle.terms.specs.Resolution.{covers, core-of};
 ghost use Rattle.scope.specs.Scope.{local-names, declared-names, reference};
+ghost use Rattle.scope.specs.Marks.{Marked};
 ghost use Rattle.stacks.specs.Stacks.{works-in, WorkArea, WorkPushed};
 ghost use Rattle.elaborate.specs.RowTerm.{row-word, six-at, row-term};
 ghost use Rattle.elaborate.specs.Machine.{Six, scheduled-one, scheduled, Room, Inside, RowDone, ReferenceDone, without-arguments, form-row, Stepped, Answered};
@@ -400,10 +401,12 @@ fn declaration_step(
     declarations: &[u32],
     core: &mut [u32],
     work: &mut [u32],
+    marks: &[u8],
     rows: usize,
     d: usize,
 ) -> Elaborated
     requires { ⌜ Inside (now surface) (now work) rows d ⌝ }
+    requires { ⌜ Marked (now s) (now declarations) d (now marks) ⌝ }
     requires { ⌜ d * 5 + 5 ≤ length (now declarations) ⌝ }
     ensures { λ r. ⌜ Declared (declaration-outcome (now (s .entry)) (now (surface .entry)) (now (declarations .entry)) rows d (now (core .entry))) r (now (core .exit)) ⌝ }
 {
@@ -413,7 +416,7 @@ fn declaration_step(
     let length = declarations[at + 2];
     let ty = declarations[at + 3];
     let body = declarations[at + 4];
-    let f = scope::find_global(s, declarations, d, start, length);
+    let f = scope::find_earlier(s, declarations, marks, d, start, length);
     match f {
         Found::At(_) => Elaborated::Refused {
             class: 4,
@@ -461,6 +464,45 @@ fn fitting(surface: &[u32], declarations: &[u32], work: &[u32], rows: usize, cou
     count <= 4294967296
 }
 
+// The core rows of a module's declarations, each of which leaves the mark of its name for those behind it.
+fn elaborate_declarations(
+    s: &[u8],
+    surface: &[u32],
+    declarations: &[u32],
+    core: &mut [u32],
+    work: &mut [u32],
+    marks: &mut [u8],
+    rows: usize,
+    count: usize,
+) -> Elaborated
+    requires { ⌜ Fitting (now surface) (now declarations) (now work) rows count ⌝ }
+    requires { ⌜ length (now marks) ≡ 16384 ⌝ }
+    ensures { λ r. ⌜ ((ds : List Declaration) → Loadable (now (surface .entry)) (now (declarations .entry)) (now (core .entry)) (now (work .entry)) rows count ds → Elaborates (now (s .entry)) ds rows (now (core .entry)) r (now (core .exit))) ⌝ }
+{
+    let mut d: usize = 0;
+    while d < count {
+        let r = declaration_step(s, surface, declarations, core, work, marks, rows, d);
+        match r {
+            Elaborated::Done => {
+                scope::mark_declaration(s, declarations, marks, d);
+                d += 1;
+            }
+            Elaborated::Refused {
+                class,
+                start,
+                length,
+            } => {
+                return Elaborated::Refused {
+                    class,
+                    start,
+                    length,
+                };
+            }
+        }
+    }
+    Elaborated::Done
+}
+
 // The core rows of a module's declarations, from their surface rows and records. Tables too short for what they should hold are refused.
 pub fn elaborate_surface(
     s: &[u8],
@@ -480,25 +522,15 @@ pub fn elaborate_surface(
             length: 0,
         };
     }
-    let mut d: usize = 0;
-    while d < count {
-        let r = declaration_step(s, surface, declarations, core, work, rows, d);
-        match r {
-            Elaborated::Done => {
-                d += 1;
-            }
-            Elaborated::Refused {
-                class,
-                start,
-                length,
-            } => {
-                return Elaborated::Refused {
-                    class,
-                    start,
-                    length,
-                };
-            }
-        }
-    }
-    Elaborated::Done
+    let mut marks = [0u8; scope::MARKS];
+    elaborate_declarations(
+        s,
+        surface,
+        declarations,
+        core,
+        work,
+        &mut marks,
+        rows,
+        count,
+    )
 }

@@ -2,11 +2,15 @@
 // The port of the lookups in `elaborate_term`, surface/elaborate.rs. Document 01, "The core module".
 ghost use mathlib.Core.Path.{_≡_};
 ghost use Prim.Native.Nat.{_*_, _≤_};
-ghost use lib.ListN.{length};
+ghost use lib.ListN.{length, set};
 ghost use Rattle.words.specs.Words.{same-bytes};
 ghost use Rattle.terms.specs.Label.{part};
 ghost use Rattle.terms.specs.Resolution.{find, core-of};
 ghost use Rattle.scope.specs.Scope.{place-of, core-of-referent, local-names, declared-names, reference};
+ghost use Rattle.scope.specs.Marks.{mark-of, name-at, Marked};
+
+// How many marks there are: enough for the marks of a long source's names to lie apart.
+pub const MARKS: usize = 16384;
 
 // The number of a name in a list of names, counted from 0.
 pub enum Found {
@@ -132,6 +136,57 @@ pub fn find_global(s: &[u8], declarations: &[u32], d: usize, start: u32, length:
         return find_listed(s, declarations, d, x);
     }
     find_declared(s, declarations, d, x)
+}
+
+// The mark of a name: names with other marks are other names.
+fn mark(x: &[u8]) -> usize
+    ensures { λ r. ⌜ r ≡ mark-of (now (x .entry)) ⌝ }
+{
+    let mut mark: usize = 0;
+    let mut i = 0;
+    while i < x.len() {
+        let b = x[i] as usize;
+        mark = (mark * 137 + b) % MARKS;
+        i += 1;
+    }
+    mark
+}
+
+// The same as `find_global` where each of the d declarations has left its mark: a name whose mark is not there is new, without a walk.
+pub fn find_earlier(
+    s: &[u8],
+    declarations: &[u32],
+    marks: &[u8],
+    d: usize,
+    start: u32,
+    length: u32,
+) -> Found
+    ensures { λ r. ⌜ (d ≤ 4294967295 → Marked (now (s .entry)) (now (declarations .entry)) d (now (marks .entry)) → place-of r ≡ find (part (now (s .entry)) start length) (declared-names (now (s .entry)) (now (declarations .entry)) 0 d)) ⌝ }
+{
+    let x = atom(s, start, length);
+    let m = mark(x);
+    if m < marks.len() {
+        if marks[m] == 0 {
+            return Found::Nothing;
+        }
+    }
+    find_global(s, declarations, d, start, length)
+}
+
+// The declaration at place k leaves its mark.
+pub fn mark_declaration(s: &[u8], declarations: &[u32], marks: &mut [u8], k: usize)
+    ensures { λ r. ⌜ (k ≤ 4294967295 → now (marks .exit) ≡ set (now (marks .entry)) (mark-of (name-at (now (s .entry)) (now (declarations .entry)) k)) 1) ⌝ }
+{
+    if 4294967295 < k {
+        return;
+    }
+    let a = tables::word_at(declarations, k * 5 + 1);
+    let n = tables::word_at(declarations, k * 5 + 2);
+    let x = atom(s, a, n);
+    let m = mark(x);
+    if m < marks.len() {
+        marks[m] = 1;
+    }
 }
 
 // "A local hides a declaration."

@@ -51,8 +51,8 @@ mul-body c = search needs
 shared-slice-read-body : tie.Need-shared-slice-read-body
 shared-slice-read-body c = search needs
 
-find-global-requires : tie.Need-find-global-requires
-find-global-requires c κs = search needs
+find-earlier-requires : tie.Need-find-earlier-requires
+find-earlier-requires c κs = search needs
 
 enum-told : tie.Need-enum-told
 enum-told c = search needs
@@ -71,9 +71,9 @@ enum-known-t c = search needs
 
 returns : tie.Need-returns
 returns c =
-    let o = c .before .before .before .before .before .before .before .before .before .before .before .before .before in
+    let o = c .before .before .before .before .before .before .before .before .before .before .before .before .before .before in
     let a = o .args in
-    duplicate (a .s .now) (a .surface .now) (a .declarations .now) (a .rows) (a .d) (a .core .now) _ _ (sym (ap place-of (c .enum-told .given .1)) ∙ c .before .before .find-global .ensures (o .pre .0 .few))
+    duplicate (a .s .now) (a .surface .now) (a .declarations .now) (a .rows) (a .d) (a .core .now) _ _ (sym (ap place-of (c .enum-told .given .1)) ∙ c .before .before .find-earlier .ensures (o .pre .0 .few) (o .pre .1 .0))
 
 same-length : tie.Need-same-length
 same-length c = search needs
@@ -83,10 +83,10 @@ same-length-2 c = search needs
 
 returns-2 : tie.Need-returns-2
 returns-2 c =
-    let o = c .before .before .before .before .before .before .before .before .before .before .before .before .before .before .before .before .before .before .before .before .before .before in
+    let o = c .before .before .before .before .before .before .before .before .before .before .before .before .before .before .before .before .before .before .before .before .before .before .before in
     let a = o .args in
     let k = c .before .before .before .before .before .before .elaborate-parts in
-    declared (a .s .now) (a .surface .now) (a .declarations .now) (a .rows) (a .d) (a .core .now) _ (k .result) (sym (ap place-of (c .before .before .before .before .before .before .before .before .before .enum-told2 .given .1)) ∙ c .before .before .before .before .before .before .before .before .before .before .before .find-global .ensures (o .pre .0 .few)) (k .ensures) (c .enum-told3 .given .1)
+    declared (a .s .now) (a .surface .now) (a .declarations .now) (a .rows) (a .d) (a .core .now) _ (k .result) (sym (ap place-of (c .before .before .before .before .before .before .before .before .before .enum-told2 .given .1)) ∙ c .before .before .before .before .before .before .before .before .before .before .before .find-earlier .ensures (o .pre .0 .few) (o .pre .1 .0)) (k .ensures) (c .enum-told3 .given .1)
 
 same-length-3 : tie.Need-same-length-3
 same-length-3 c = search needs
@@ -96,10 +96,10 @@ same-length-4 c = search needs
 
 returns-3 : tie.Need-returns-3
 returns-3 c =
-    let o = c .before .before .before .before .before .before .before .before .before .before .before .before .before .before .before .before .before .before .before .before .before .before .before in
+    let o = c .before .before .before .before .before .before .before .before .before .before .before .before .before .before .before .before .before .before .before .before .before .before .before .before in
     let a = o .args in
     let k = c .before .before .before .before .before .before .before .elaborate-parts in
-    undeclared (a .s .now) (a .surface .now) (a .declarations .now) (a .rows) (a .d) (a .core .now) _ (k .result) _ _ (sym (ap place-of (c .before .before .before .before .before .before .before .before .before .before .enum-told2 .given .1)) ∙ c .before .before .before .before .before .before .before .before .before .before .before .before .find-global .ensures (o .pre .0 .few)) (k .ensures) (c .before .t .given .1)
+    undeclared (a .s .now) (a .surface .now) (a .declarations .now) (a .rows) (a .d) (a .core .now) _ (k .result) _ _ (sym (ap place-of (c .before .before .before .before .before .before .before .before .before .before .enum-told2 .given .1)) ∙ c .before .before .before .before .before .before .before .before .before .before .before .before .find-earlier .ensures (o .pre .0 .few) (o .pre .1 .0)) (k .ensures) (c .before .t .given .1)
 
 pub declaration-step-spec : {M : Type 1} → statement M
 declaration-step-spec =
@@ -120,7 +120,7 @@ declaration-step-spec =
     add-body
     mul-body
     shared-slice-read-body
-    find-global-requires
+    find-earlier-requires
     enum-told
     enum-told-2
     elaborate-parts-requires
