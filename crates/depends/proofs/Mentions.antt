@@ -12,7 +12,7 @@ use Rattle.terms.specs.Label.{Declaration}
 use Rattle.terms.specs.Resolution.{CoreDeclaration, resolve-module}
 use Rattle.terms.specs.Rows.{pad, joined, core-rows, declaration-records}
 use Rattle.terms.specs.Dependence.{GlobalRow}
-use Rattle.terms.proofs.Tables.{Wide, joined-at}
+use Rattle.terms.proofs.Tables.{getD-pad, Wide, joined-at}
 use Rattle.terms.proofs.Widths.{total, wide-core, wide-records, total-core, count-records}
 use Rattle.surface.specs.declared.Dependence.{Dependence}
 use Rattle.surface.specs.declared.Dependence.the-variants.{Yes, No, Refused}
@@ -22,13 +22,6 @@ use Rattle.surface.specs.Dependence.{Answers}
 use Rattle.surface.proofs.Acceptance.{is-read, is-loaded}
 use Rattle.depends.specs.Search.{global-at, first-global, row-behind, first-row, mention}
 use Rattle.depends.proofs.Ranges.{first-of, behind-of, first-is-behind, behind-inside, first-of-zero, count-resolved, InRange, to-range, from-range, last-in-record}
-
-pub getD-pad : (n : ℕ) (l : List ℕ) (i : ℕ) → i < n → getD (pad n l) i 0 ≡ getD l i 0
-getD-pad zero l i h = absurd (omega arith)
-getD-pad (suc n) [] zero h = refl
-getD-pad (suc n) [] (suc i) h = getD-pad n [] i (omega arith)
-getD-pad (suc n) (x ∷ l) zero h = refl
-getD-pad (suc n) (x ∷ l) (suc i) h = getD-pad n l i (omega arith)
 
 -- Word j of row k in a table that has room for all rows.
 pub word-of-row : (w n : ℕ) (l : List (List ℕ)) → Wide w l → length l * w ≤ n → (k j : ℕ) → k < length l → j < w → k * w + j < n → getD (pad n (joined l)) (k * w + j) 0 ≡ getD (getD l k []) j 0

@@ -13,6 +13,7 @@ use lib.Seq.{getD-take, getD-drop}
 use Rattle.terms.specs.Forms.{forms, form-of-kind, arity-of, holds-span}
 use Rattle.terms.specs.Label.{Label}
 use Rattle.terms.specs.Rows.{pad, span, surface-row}
+use Rattle.terms.proofs.Tables.{getD-pad}
 use Rattle.rows.proofs.Arities.{value-at, no-arity, arity-at-most-six}
 use Rattle.rows.proofs.Words.{pad-words}
 use Rattle.elaborate.specs.RowTerm.{row-word, label-at, six-at, children-at}
@@ -28,13 +29,6 @@ word-of w t k r e j h = sym (getD-drop (k * w) t j 0) ∙ sym (getD-take w (drop
 
 pub first-word-of : (w : ℕ) (t : List ℕ) (k : ℕ) (r : List ℕ) → place w t k ≡ r → 0 < w → getD t (k * w) 0 ≡ getD r 0 0
 first-word-of w t k r e h = ap (λ (i : ℕ). getD t i 0) (sym (add-zero (k * w))) ∙ word-of w t k r e 0 h
-
-getD-pad : (n : ℕ) (l : List ℕ) (j : ℕ) → j < n → getD (pad n l) j 0 ≡ getD l j 0
-getD-pad zero l j h = absurd (omega arith)
-getD-pad (suc n) [] zero h = refl
-getD-pad (suc n) [] (suc j) h = getD-pad n [] j (omega arith)
-getD-pad (suc n) (x ∷ l) zero h = refl
-getD-pad (suc n) (x ∷ l) (suc j) h = getD-pad n l j (omega arith)
 
 -- Behind a span there are at most two arguments.
 abbrev bounded : ℕ → Bool

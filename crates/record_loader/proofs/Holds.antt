@@ -10,7 +10,7 @@ use borrow.Author.Tests.{ltb-true, ltb-false}
 use Rattle.terms.specs.Label.{Declaration}
 use Rattle.terms.specs.Resolution.{resolve-module}
 use Rattle.terms.specs.Rows.{pad, joined, declaration-records}
-use Rattle.terms.proofs.Tables.{length-pad, length-joined, joined-at}
+use Rattle.terms.proofs.Tables.{length-pad, getD-pad, length-joined, joined-at}
 use Rattle.terms.proofs.Widths.{wide-records, count-records}
 use Rattle.surface.specs.Reader.{Position, start, Result, done, refused}
 use Rattle.surface.specs.Loading.{Lengths, outcome, loading, load}
@@ -18,7 +18,7 @@ use Rattle.records.specs.declared.Declaration as R
 use Rattle.records.specs.Records.{blank, five-words, record-at, records-from, records-of}
 use Rattle.records.proofs.Whole.{at-whole, at-behind}
 use Rattle.record_loader.specs.Recorded.{with-records}
-use Rattle.record_loader.proofs.Lists.{five-same, getD-pad}
+use Rattle.record_loader.proofs.Lists.{five-same}
 use Rattle.record_loader.proofs.Room.{with-words, loading-few}
 
 -- Record k of a list that a table gives.

@@ -9,7 +9,7 @@ use lib.ListN.{length, getD, take, List·getD-eq-default}
 use lib.Seq.{getD-take, length-take-le, take-length}
 use borrow.Author.Tests.{ltb-true, ltb-false}
 use Rattle.terms.specs.Rows.{pad}
-use Rattle.terms.proofs.Tables.{length-pad}
+use Rattle.terms.proofs.Tables.{length-pad, getD-pad}
 use Rattle.records.specs.Records.{blank, five-words, record-at, records-from, records-of, word-limit}
 use Rattle.records.proofs.Whole.{at-whole, at-behind, limit-below, limit-above}
 use Rattle.record_loader.specs.Recorded.{front}
@@ -47,13 +47,6 @@ front-records words words₁ n e = by-test (ltb n (length words / 5)) refl
     by-test false f =
         ap (λ (t : List ℕ). records-of t n) (sym (take-length words₁))
         ∙ ap (λ (x : ℕ). records-of (take x words₁) n) (e ∙ limit-above n (length words) (ltb-false n (length words / 5) f))
-
-pub getD-pad : (m : ℕ) (l : List ℕ) (i : ℕ) → i < m → getD (pad m l) i 0 ≡ getD l i 0
-getD-pad zero l i h = absurd (omega arith)
-getD-pad (suc m) [] zero h = refl
-getD-pad (suc m) [] (suc i) h = getD-pad m [] i (omega arith)
-getD-pad (suc m) (x ∷ l) zero h = refl
-getD-pad (suc m) (x ∷ l) (suc i) h = getD-pad m l i (omega arith)
 
 -- Words that fit 13,107 records, in the table of a longer list.
 module _ (l : List ℕ) (fits : length l ≤ 65535) (n : ℕ) (long : 13107 ≤ n) where

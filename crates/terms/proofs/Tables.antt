@@ -13,6 +13,13 @@ length-pad zero l = refl
 length-pad (suc n) [] = ap suc (length-pad n [])
 length-pad (suc n) (x ∷ l) = ap suc (length-pad n l)
 
+pub getD-pad : (n : ℕ) (l : List ℕ) (i : ℕ) → i < n → getD (pad n l) i 0 ≡ getD l i 0
+getD-pad zero l i h = absurd (omega arith)
+getD-pad (suc n) [] zero h = refl
+getD-pad (suc n) [] (suc i) h = getD-pad n [] i (omega arith)
+getD-pad (suc n) (x ∷ l) zero h = refl
+getD-pad (suc n) (x ∷ l) (suc i) h = getD-pad n l i (omega arith)
+
 -- Each row has w words.
 abbrev pub Wide : ℕ → List (List ℕ) → Type 0
 Wide w [] = Unit {0}
