@@ -10,11 +10,11 @@ use native.Mathlib.Decide.{decLe}
 use lib.Dec.{leb}
 use lib.ListN.{length, getD}
 use Rattle.terms.specs.Label.{part}
-use Rattle.terms.specs.Resolution.{find}
+use Rattle.terms.specs.Resolution.{find, refused-name}
 use Rattle.scope.specs.Scope.{declared-names}
 use Rattle.elaborate.specs.RowTerm.{Outcome, done, unknown-at, and-then, row-term}
 use Rattle.elaborate.specs.Machine.{Answered}
-use Rattle.elaborate.specs.Declarations.{Fitting, Whether, ModuleOutcome, parts-outcome, record-word, declaration-outcome, Declared}
+use Rattle.elaborate.specs.Declarations.{Fitting, Whether, ModuleOutcome, refused, module-outcome, parts-outcome, record-word, declaration-outcome, Declared}
 use Rattle.elaborate.specs.declared.TermDone.{TermDone}
 use Rattle.elaborate.specs.declared.Elaborated.{Elaborated}
 
@@ -71,6 +71,18 @@ module _ (s surface declarations : List ℕ) (rows d : ℕ) where
     pub undeclared : (r : TermDone) (a n : ℕ) → none ≡ name-found → Answered both r core₁ → r ≡ TermDone.Unknown a n → Declared whole (Elaborated.Refused 5 a n) core₁
     unfolding declaration-outcome
     undeclared r a n e h q = rw (declaration-outcome, ← e, when-unknown both r core₁ a n h q)
+
+    -- A declaration that is not refused has a new name.
+    pub name-new : (r : Elaborated) → Declared whole r core₁ → r ≡ Elaborated.Done → name-found ≡ none
+    unfolding declaration-outcome
+    name-new r h e = go name-found h
+      where
+        go : (o : Option ℕ) → Declared (elim o as (λ _. ModuleOutcome) [
+          | some i ↦ refused (refused-name 4 (record-word s surface declarations rows d 1) (record-word s surface declarations rows d 2))
+          | none ↦ module-outcome both
+        ]) r core₁ → o ≡ none
+        go none q = refl
+        go (some i) q = absurd (let z : _≡_ {A = ℕ} 0 1 = cc in omega arith)
 
 pub whether-fitting : (surface declarations work : List ℕ) (rows count : ℕ) → 16384 ≤ length work → rows ≤ length surface / 8 → count ≤ length declarations / 5
     → Whether (leb count 4294967296) (Fitting surface declarations work rows count)

@@ -13,7 +13,7 @@ use Rattle.elaborate.specs.declared.State.{State}
 use Rattle.elaborate.specs.declared.Step.{Step}
 use Rattle.elaborate.specs.declared.TermDone.{TermDone}
 
-module _ (s surface declarations : List ℕ) (rows d root : ℕ) (core₀ : List ℕ) where
+module _ (s surface declarations index : List ℕ) (rows d root : ℕ) (core₀ : List ℕ) where
   abbrev whole : Outcome
   whole = row-term s surface declarations rows d 512 root [] core₀
 
@@ -21,21 +21,21 @@ module _ (s surface declarations : List ℕ) (rows d root : ℕ) (core₀ : List
     pub same : whole ≡ outcome s surface declarations rows d (works-in work (st .works)) work st core
     pub room : Room (works-in work (st .works)) (st .values) (st .locals)
     pub fits : st .works ≤ 3754
-    pub inside : Inside surface work rows d
+    pub inside : Inside s surface declarations index work rows d
 
   and-done : (o : Outcome) → o ≡ and-then o (λ c. done c)
   unfolding and-then
   and-done (done c) = refl
   and-done (unknown-at a n) = refl
 
-  pub started : (work₀ work : List ℕ) → Inside surface work₀ rows d → length work ≡ length work₀ → WorkPushed work₀ work (0 + 1) (Work.Eval root 512 ∷ works-in work₀ 0)
+  pub started : (work₀ work : List ℕ) → Inside s surface declarations index work₀ rows d → length work ≡ length work₀ → WorkPushed work₀ work (0 + 1) (Work.Eval root 512 ∷ works-in work₀ 0)
       → Elaborating core₀ work (record { works = 1; values = 0; locals = 0 })
   unfolding works-in values-in local-names run Room
   started work₀ work i e p = record {
     same = and-done whole ∙ ap (λ (l : List Work). run s surface declarations rows d l [] [] core₀) (sym (p .works));
     room = subst (λ (l : List Work). Room l 0 0) (sym (p .works)) (omega arith, omega arith, omega arith, tt);
     fits = omega arith;
-    inside = record { area = omega (arith, i .area); read = i .read; few = i .few };
+    inside = record { area = omega (arith, i .area); read = i .read; few = i .few; indexed = i .indexed };
   }
 
   module _ (core work : List ℕ) (st : State) (e : Elaborating core work st) where
@@ -50,7 +50,7 @@ module _ (s surface declarations : List ℕ) (rows d root : ℕ) (core₀ : List
             same = e .same ∙ w .same;
             room = w .room;
             fits = w .fits;
-            inside = record { area = omega (arith, e .inside .area); read = e .inside .read; few = e .inside .few };
+            inside = record { area = omega (arith, e .inside .area); read = e .inside .read; few = e .inside .few; indexed = e .inside .indexed };
           }
 
       pub stops : (a n : ℕ) → r ≡ Step.Unknown a n → Answered whole (TermDone.Unknown a n) core₁

@@ -11,6 +11,7 @@ use Rattle.terms.specs.Resolution.{Core, kept, covers, is-unknown}
 use Rattle.terms.specs.Rows.{core-words}
 use Rattle.rows.specs.Places.{stored-at}
 use Rattle.scope.specs.Scope.{local-names, reference}
+use Rattle.scope.specs.Index.{Indexed}
 use Rattle.stacks.specs.Stacks.{works-in, values-in, WorkArea, ValuePushed}
 use Rattle.stacks.specs.declared.Work.{Work}
 use Rattle.elaborate.specs.RowTerm.{Outcome, done, unknown-at, and-then, row-term}
@@ -72,11 +73,12 @@ weight (Work.PushLocal a n ∷ works) = 1 + weight works
 weight (Work.PopLocal ∷ works) = 1 + weight works
 weight (Work.Build k id ∷ works) = 1 + weight works
 
--- The tables are long enough, and a declaration's place fits a word.
-pub record Inside (surface work : List ℕ) (rows d : ℕ) : Type 0 where
+-- The tables are long enough, a declaration's place fits a word, and the index holds the earlier declarations.
+pub record Inside (s surface declarations index work : List ℕ) (rows d : ℕ) : Type 0 where
   pub area : WorkArea work
   pub read : rows * 8 ≤ length surface
   pub few : d ≤ 4294967295
+  pub indexed : Indexed s declarations d index
 
 -- A row is stored, and its number is one more value.
 pub record RowDone (id : ℕ) (words : List ℕ) (st : State) (core work : List ℕ) (st₁ : State) (core₁ work₁ : List ℕ) : Type 0 where

@@ -3,12 +3,12 @@
 ghost use mathlib.Core.Path.{_≡_};
 ghost use mathlib.Core.List.{List, [], _∷_};
 ghost use Prim.Native.Nat.{_+_, _*_, _<_, _≤_};
-ghost use lib.ListN.{length, take};
+ghost use lib.ListN.{length, take, replicate};
 ghost use Rattle.terms.specs.Forms.{arity-of, holds-span};
 ghost use Rattle.terms.specs.Label.{Declaration};
 ghost use Rattle.terms.specs.Resolution.{covers, core-of};
 ghost use Rattle.scope.specs.Scope.{local-names, declared-names, reference};
-ghost use Rattle.scope.specs.Marks.{Marked};
+ghost use Rattle.scope.specs.Index.{Indexed};
 ghost use Rattle.stacks.specs.Stacks.{works-in, WorkArea, WorkPushed};
 ghost use Rattle.elaborate.specs.RowTerm.{row-word, six-at, row-term};
 ghost use Rattle.elaborate.specs.Machine.{Six, scheduled-one, scheduled, Room, Inside, RowDone, ReferenceDone, without-arguments, form-row, Stepped, Answered};
@@ -170,17 +170,18 @@ fn eval_reference(
     declarations: &[u32],
     core: &mut [u32],
     work: &mut [u32],
+    index: &[u16],
     st: State,
     id: u32,
     d: usize,
     start: u32,
     length: u32,
 ) -> Step
-    requires { ⌜ (st .locals ≤ 512) × (st .values < 3072) × (d ≤ 4294967295) × WorkArea (now work) ⌝ }
+    requires { ⌜ (st .locals ≤ 512) × (st .values < 3072) × (d ≤ 4294967295) × WorkArea (now work) × Indexed (now s) (now declarations) d (now index) ⌝ }
     ensures { λ r. ⌜ ReferenceDone (core-of (now (s .entry)) (local-names (now (s .entry)) (now (work .entry)) (st .locals)) (declared-names (now (s .entry)) (now (declarations .entry)) 0 d) (reference start length)) start length id st (now (core .entry)) (now (work .entry)) r (now (core .exit)) (now (work .exit)) ⌝ }
 {
     let l = st.locals;
-    let r = scope::find_name(s, work, declarations, l, d, start, length);
+    let r = scope::find_name(s, work, declarations, index, l, d, start, length);
     match r {
         Referent::Var(count) => {
             let row = rows::reference_row(1, count);
@@ -221,13 +222,14 @@ fn eval(
     declarations: &[u32],
     core: &mut [u32],
     work: &mut [u32],
+    index: &[u16],
     st: State,
     id: u32,
     left: u32,
     rows: usize,
     d: usize,
 ) -> Step
-    requires { ⌜ Inside (now surface) (now work) rows d ⌝ }
+    requires { ⌜ Inside (now s) (now surface) (now declarations) (now index) (now work) rows d ⌝ }
     requires { ⌜ Room (Work.Eval id left ∷ works-in (now work) (st .works)) (st .values) (st .locals) ⌝ }
     ensures { λ r. ⌜ Stepped (now (s .entry)) (now (surface .entry)) (now (declarations .entry)) rows d (Work.Eval id left ∷ works-in (now (work .entry)) (st .works)) (now (work .entry)) st (now (core .entry)) r (now (core .exit)) (now (work .exit)) ⌝ }
 {
@@ -243,7 +245,7 @@ fn eval(
     let start = surface[a + 1];
     let length = surface[a + 2];
     if kind == 24 {
-        return eval_reference(s, declarations, core, work, st, id, d, start, length);
+        return eval_reference(s, declarations, core, work, index, st, id, d, start, length);
     }
     let n = rows::arity(kind);
     if n == 0 {
@@ -274,11 +276,12 @@ fn work_step(
     declarations: &[u32],
     core: &mut [u32],
     work: &mut [u32],
+    index: &[u16],
     st: State,
     rows: usize,
     d: usize,
 ) -> Step
-    requires { ⌜ Inside (now surface) (now work) rows d ⌝ }
+    requires { ⌜ Inside (now s) (now surface) (now declarations) (now index) (now work) rows d ⌝ }
     requires { ⌜ Room (works-in (now work) (st .works)) (st .values) (st .locals) ⌝ }
     requires { ⌜ (0 < st .works) × (st .works ≤ 3754) ⌝ }
     ensures { λ r. ⌜ Stepped (now (s .entry)) (now (surface .entry)) (now (declarations .entry)) rows d (works-in (now (work .entry)) (st .works)) (now (work .entry)) st (now (core .entry)) r (now (core .exit)) (now (work .exit)) ⌝ }
@@ -299,6 +302,7 @@ fn work_step(
             declarations,
             core,
             work,
+            index,
             below,
             row,
             left,
@@ -329,11 +333,12 @@ fn elaborate_term(
     declarations: &[u32],
     core: &mut [u32],
     work: &mut [u32],
+    index: &[u16],
     root: u32,
     rows: usize,
     d: usize,
 ) -> TermDone
-    requires { ⌜ Inside (now surface) (now work) rows d ⌝ }
+    requires { ⌜ Inside (now s) (now surface) (now declarations) (now index) (now work) rows d ⌝ }
     ensures { λ r. ⌜ Answered (row-term (now (s .entry)) (now (surface .entry)) (now (declarations .entry)) rows d 512 root [] (now (core .entry))) r (now (core .exit)) ⌝ }
 {
     stacks::push_work(
@@ -354,7 +359,7 @@ fn elaborate_term(
         if t == 0 {
             return TermDone::Done;
         }
-        let r = work_step(s, surface, declarations, core, work, st, rows, d);
+        let r = work_step(s, surface, declarations, core, work, index, st, rows, d);
         match r {
             Step::Go(next) => {
                 st = next;
@@ -373,23 +378,24 @@ fn elaborate_parts(
     declarations: &[u32],
     core: &mut [u32],
     work: &mut [u32],
+    index: &[u16],
     kind: u32,
     ty: u32,
     body: u32,
     rows: usize,
     d: usize,
 ) -> TermDone
-    requires { ⌜ Inside (now surface) (now work) rows d ⌝ }
+    requires { ⌜ Inside (now s) (now surface) (now declarations) (now index) (now work) rows d ⌝ }
     ensures { λ r. ⌜ Answered (parts-outcome (now (s .entry)) (now (surface .entry)) (now (declarations .entry)) rows d kind ty body (now (core .entry))) r (now (core .exit)) ⌝ }
 {
-    let t = elaborate_term(s, surface, declarations, core, work, ty, rows, d);
+    let t = elaborate_term(s, surface, declarations, core, work, index, ty, rows, d);
     match t {
         TermDone::Unknown { start, length } => TermDone::Unknown { start, length },
         TermDone::Done => {
             if kind == 1 {
                 return TermDone::Done;
             }
-            elaborate_term(s, surface, declarations, core, work, body, rows, d)
+            elaborate_term(s, surface, declarations, core, work, index, body, rows, d)
         }
     }
 }
@@ -401,12 +407,11 @@ fn declaration_step(
     declarations: &[u32],
     core: &mut [u32],
     work: &mut [u32],
-    marks: &[u8],
+    index: &[u16],
     rows: usize,
     d: usize,
 ) -> Elaborated
-    requires { ⌜ Inside (now surface) (now work) rows d ⌝ }
-    requires { ⌜ Marked (now s) (now declarations) d (now marks) ⌝ }
+    requires { ⌜ Inside (now s) (now surface) (now declarations) (now index) (now work) rows d ⌝ }
     requires { ⌜ d * 5 + 5 ≤ length (now declarations) ⌝ }
     ensures { λ r. ⌜ Declared (declaration-outcome (now (s .entry)) (now (surface .entry)) (now (declarations .entry)) rows d (now (core .entry))) r (now (core .exit)) ⌝ }
 {
@@ -416,7 +421,7 @@ fn declaration_step(
     let length = declarations[at + 2];
     let ty = declarations[at + 3];
     let body = declarations[at + 4];
-    let f = scope::find_earlier(s, declarations, marks, d, start, length);
+    let f = scope::find_indexed(s, declarations, index, d, start, length);
     match f {
         Found::At(_) => Elaborated::Refused {
             class: 4,
@@ -430,6 +435,7 @@ fn declaration_step(
                 declarations,
                 core,
                 work,
+                index,
                 kind,
                 ty,
                 body,
@@ -464,27 +470,27 @@ fn fitting(surface: &[u32], declarations: &[u32], work: &[u32], rows: usize, cou
     count <= 4294967296
 }
 
-// The core rows of a module's declarations, each of which leaves the mark of its name for those behind it.
+// The core rows of a module's declarations, each of which goes into the index of names for those behind it.
 fn elaborate_declarations(
     s: &[u8],
     surface: &[u32],
     declarations: &[u32],
     core: &mut [u32],
     work: &mut [u32],
-    marks: &mut [u8],
+    index: &mut [u16],
     rows: usize,
     count: usize,
 ) -> Elaborated
     requires { ⌜ Fitting (now surface) (now declarations) (now work) rows count ⌝ }
-    requires { ⌜ length (now marks) ≡ 16384 ⌝ }
+    requires { ⌜ now index ≡ replicate 8192 0 ⌝ }
     ensures { λ r. ⌜ ((ds : List Declaration) → Loadable (now (surface .entry)) (now (declarations .entry)) (now (core .entry)) (now (work .entry)) rows count ds → Elaborates (now (s .entry)) ds rows (now (core .entry)) r (now (core .exit))) ⌝ }
 {
     let mut d: usize = 0;
     while d < count {
-        let r = declaration_step(s, surface, declarations, core, work, marks, rows, d);
+        let r = declaration_step(s, surface, declarations, core, work, index, rows, d);
         match r {
             Elaborated::Done => {
-                scope::mark_declaration(s, declarations, marks, d);
+                scope::enter(s, declarations, index, d);
                 d += 1;
             }
             Elaborated::Refused {
@@ -522,14 +528,14 @@ pub fn elaborate_surface(
             length: 0,
         };
     }
-    let mut marks = [0u8; scope::MARKS];
+    let mut index = [0u16; scope::INDEX];
     elaborate_declarations(
         s,
         surface,
         declarations,
         core,
         work,
-        &mut marks,
+        &mut index,
         rows,
         count,
     )

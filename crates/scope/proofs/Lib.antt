@@ -1,2 +1,2 @@
 mod Search
-pub mod Marks
+pub mod Index

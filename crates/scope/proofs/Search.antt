@@ -6,7 +6,9 @@ use mathlib.Core.Option.{Option, none, some}
 use mathlib.Core.Bool.{Bool, true, false}
 use native.Mathlib.Omega.{arith}
 use native.Mathlib.Numerals.{add-one}
-use lib.ListN.{getD}
+use native.Mathlib.Nat.{min-le-left}
+use lib.ListN.{length, getD, drop, length-take}
+use Rattle.words.proofs.Names.{ne-same}
 use Rattle.words.specs.Words.{same-bytes}
 use Rattle.terms.specs.Label.{Name, part}
 use Rattle.terms.specs.Resolution.{next-number, find, referent, core-of}
@@ -49,6 +51,10 @@ module _ (x : Name) where
   -- What a comparison with the name at two words says.
   pub compared : (s : List ℕ) (a m a' m' : ℕ) (r b : Bool) → a ≡ a' → m ≡ m' → r ≡ same-bytes x (part s a m) → r ≡ b → same-bytes x (part s a' m') ≡ b
   compared s a m a' m' r b p q e h = (λ i. same-bytes x (part s (sym p i) (sym q i))) ∙ sym e ∙ h
+
+-- A part is no longer than it says.
+pub longer : (x : Name) (s : List ℕ) (a n : ℕ) → n < length x → same-bytes x (part s a n) ≡ false
+longer x s a n h = ne-same x (part s a n) (λ q. let e = ap length q in omega (arith, length-take n (drop a s), min-le-left n (length (drop a s))))
 
 -- The name on top of the locals.
 pub innermost : (s w : List ℕ) (d : ℕ) → 0 < d

@@ -1,8 +1,8 @@
 -- Document 01, "The core module": the names in scope, as the work area and the declaration records hold them. Assumes nothing.
-use Prim.Native.Nat.{ℕ, zero, suc, _+_, _*_}
+use Prim.Native.Nat.{ℕ, zero, suc, _+_, _*_, _≤_}
 use mathlib.Core.List.{List, [], _∷_}
 use mathlib.Core.Option.{Option, none, some}
-use lib.ListN.{getD}
+use lib.ListN.{length, getD}
 use Rattle.terms.specs.Forms.{ref}
 use Rattle.terms.specs.Label.{Name, part, Label}
 use Rattle.terms.specs.Resolution.{Core, var, global, unknown}
@@ -22,6 +22,11 @@ core-of-referent Referent.Unknown = unknown
 unfoldable pub local-names : List ℕ → List ℕ → ℕ → List Name
 local-names s w zero = []
 local-names s w (suc d) = part s (getD w (d * 2) 0) (getD w (d * 2 + 1) 0) ∷ local-names s w d
+
+-- There are at most 512 binders, whose words are there.
+pub record Binders (w : List ℕ) (depth : ℕ) : Type 0 where
+  pub few : depth ≤ 512
+  pub there : 1024 ≤ length w
 
 -- The names of d declarations from place k on. A record is five words: kind, name start, name length, type row, body row.
 unfoldable pub declared-names : List ℕ → List ℕ → ℕ → ℕ → List Name

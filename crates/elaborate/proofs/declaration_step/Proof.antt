@@ -51,8 +51,8 @@ mul-body c = search needs
 shared-slice-read-body : tie.Need-shared-slice-read-body
 shared-slice-read-body c = search needs
 
-find-earlier-requires : tie.Need-find-earlier-requires
-find-earlier-requires c κs = search needs
+find-indexed-requires : tie.Need-find-indexed-requires
+find-indexed-requires c κs = search needs
 
 enum-told : tie.Need-enum-told
 enum-told c = search needs
@@ -73,7 +73,7 @@ returns : tie.Need-returns
 returns c =
     let o = c .before .before .before .before .before .before .before .before .before .before .before .before .before .before in
     let a = o .args in
-    duplicate (a .s .now) (a .surface .now) (a .declarations .now) (a .rows) (a .d) (a .core .now) _ _ (sym (ap place-of (c .enum-told .given .1)) ∙ c .before .before .find-earlier .ensures (o .pre .0 .few) (o .pre .1 .0))
+    duplicate (a .s .now) (a .surface .now) (a .declarations .now) (a .rows) (a .d) (a .core .now) _ _ (sym (ap place-of (c .enum-told .given .1)) ∙ c .before .before .find-indexed .ensures)
 
 same-length : tie.Need-same-length
 same-length c = search needs
@@ -86,7 +86,7 @@ returns-2 c =
     let o = c .before .before .before .before .before .before .before .before .before .before .before .before .before .before .before .before .before .before .before .before .before .before .before in
     let a = o .args in
     let k = c .before .before .before .before .before .before .elaborate-parts in
-    declared (a .s .now) (a .surface .now) (a .declarations .now) (a .rows) (a .d) (a .core .now) _ (k .result) (sym (ap place-of (c .before .before .before .before .before .before .before .before .before .enum-told2 .given .1)) ∙ c .before .before .before .before .before .before .before .before .before .before .before .find-earlier .ensures (o .pre .0 .few) (o .pre .1 .0)) (k .ensures) (c .enum-told3 .given .1)
+    declared (a .s .now) (a .surface .now) (a .declarations .now) (a .rows) (a .d) (a .core .now) _ (k .result) (sym (ap place-of (c .before .before .before .before .before .before .before .before .before .enum-told2 .given .1)) ∙ c .before .before .before .before .before .before .before .before .before .before .before .find-indexed .ensures) (k .ensures) (c .enum-told3 .given .1)
 
 same-length-3 : tie.Need-same-length-3
 same-length-3 c = search needs
@@ -99,7 +99,7 @@ returns-3 c =
     let o = c .before .before .before .before .before .before .before .before .before .before .before .before .before .before .before .before .before .before .before .before .before .before .before .before in
     let a = o .args in
     let k = c .before .before .before .before .before .before .before .elaborate-parts in
-    undeclared (a .s .now) (a .surface .now) (a .declarations .now) (a .rows) (a .d) (a .core .now) _ (k .result) _ _ (sym (ap place-of (c .before .before .before .before .before .before .before .before .before .before .enum-told2 .given .1)) ∙ c .before .before .before .before .before .before .before .before .before .before .before .before .find-earlier .ensures (o .pre .0 .few) (o .pre .1 .0)) (k .ensures) (c .before .t .given .1)
+    undeclared (a .s .now) (a .surface .now) (a .declarations .now) (a .rows) (a .d) (a .core .now) _ (k .result) _ _ (sym (ap place-of (c .before .before .before .before .before .before .before .before .before .before .enum-told2 .given .1)) ∙ c .before .before .before .before .before .before .before .before .before .before .before .before .find-indexed .ensures) (k .ensures) (c .before .t .given .1)
 
 pub declaration-step-spec : {M : Type 1} → statement M
 declaration-step-spec =
@@ -120,7 +120,7 @@ declaration-step-spec =
     add-body
     mul-body
     shared-slice-read-body
-    find-earlier-requires
+    find-indexed-requires
     enum-told
     enum-told-2
     elaborate-parts-requires

@@ -21,7 +21,7 @@ same-length-2 c = search needs
 
 returns : tie.Need-returns
 returns c =
-    let o = c .before .before .before .before .before .before .before .before .before .before .before .before .before .before .before in
+    let o = c .before .before .before .before .before .before .before .before .before .before .before .before .before .before .before .before in
     let a = o .args in
     let k = c .before .before .before .before .before .before .before .elaborate-term in
     postulated (a .s .now) (a .surface .now) (a .declarations .now) (a .rows) (a .d) (a .kind) (a .ty) (a .body) (a .core .now) _ (c .if1 .taken) (when-done _ _ _ (k .ensures) (c .before .enum-told .given .1))
@@ -37,7 +37,7 @@ same-length-4 c = search needs
 
 returns-2 : tie.Need-returns-2
 returns-2 c =
-    let o = c .before .before .before .before .before .before .before .before .before .before .before .before .before .before .before in
+    let o = c .before .before .before .before .before .before .before .before .before .before .before .before .before .before .before .before in
     let a = o .args in
     let k = c .before .before .before .before .before .before .before .elaborate-term in
     type-unknown (a .s .now) (a .surface .now) (a .declarations .now) (a .rows) (a .d) (a .kind) (a .ty) (a .body) (a .core .now) _ _ _ (when-unknown _ _ _ _ _ (k .ensures) (c .before .t .given .1))
@@ -50,7 +50,7 @@ same-length-6 c = search needs
 
 returns-3 : tie.Need-returns-3
 returns-3 c =
-    let o = c .before .before .before .before .before .before .before .before .before .before .before .before .before .before .before .before .before .before .before .before .before .before in
+    let o = c .before .before .before .before .before .before .before .before .before .before .before .before .before .before .before .before .before .before .before .before .before .before .before in
     let a = o .args in
     let k = c .before .before .before .before .before .before .before .before .before .before .before .before .before .before .elaborate-term in
     body-answered (a .s .now) (a .surface .now) (a .declarations .now) (a .rows) (a .d) (a .kind) (a .ty) (a .body) (a .core .now) _ _ _ (c .before .before .before .before .before .before .before .if1 .left) (when-done _ _ _ (k .ensures) (c .before .before .before .before .before .before .before .before .enum-told .given .1)) (c .before .before .before .before .elaborate-term2 .ensures)

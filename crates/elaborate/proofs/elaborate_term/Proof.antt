@@ -10,21 +10,21 @@ use Rattle.elaborate.proofs.elaborate_term.Statement.{statement}
 use Rattle.elaborate.proofs.elaborate_term.Tie as tie
 
 abbrev Inv-loop : tie.InvT-loop
-Inv-loop s surface declarations core₀ work₀ root rows d st₀ core work st =
-    Elaborating s surface declarations rows d root core₀ core work st × (length core ≡ length core₀) × (length work ≡ length work₀)
+Inv-loop s surface declarations core₀ work₀ index root rows d st₀ core work st =
+    Elaborating s surface declarations index rows d root core₀ core work st × (length core ≡ length core₀) × (length work ≡ length work₀)
 
 abbrev μ-loop : tie.MeasureT-loop
-μ-loop s surface declarations core₀ work₀ root rows d st₀ core work st = weight (works-in work (st .works))
+μ-loop s surface declarations core₀ work₀ index root rows d st₀ core work st = weight (works-in work (st .works))
 
 push-work-requires : tie.Need-push-work-requires Inv-loop μ-loop
 push-work-requires c κs = search needs
 
 loop-holds : tie.Need-loop-holds Inv-loop μ-loop
 loop-holds c =
-    let o = c .before .before .before .before .before .before .before .before .before in
+    let o = c .before .before .before .before .before .before .before .before .before .before in
     let a = o .args in
     let k = c .before .before .push-work in
-    (started (a .s .now) (a .surface .now) (a .declarations .now) (a .rows) (a .d) (a .root) (a .core .now) (a .work .now) (k .last .0) (o .pre) (k .kept .0) (k .ensures (omega arith) (o .pre .area)), refl, refl)
+    (started (a .s .now) (a .surface .now) (a .declarations .now) (a .index .now) (a .rows) (a .d) (a .root) (a .core .now) (a .work .now) (k .last .0) (o .pre) (k .kept .0) (k .ensures (omega arith) (o .pre .area)), refl, refl)
 
 same-length : tie.Need-same-length Inv-loop μ-loop
 same-length c = c .before .loop .inv .1
@@ -34,10 +34,10 @@ same-length-2 c = c .before .loop .inv .2 ∙ c .before .before .before .before 
 
 returns : tie.Need-returns Inv-loop μ-loop
 returns c =
-    let o = c .before .before .before .before .before .before .before .before .before .before .before in
+    let o = c .before .before .before .before .before .before .before .before .before .before .before .before in
     let a = o .args in
     let l = c .before .loop in
-    ended (a .s .now) (a .surface .now) (a .declarations .now) (a .rows) (a .d) (a .root) (a .core .now) (l .core) (l .work) (l .st) (l .inv .0) (c .if1 .taken)
+    ended (a .s .now) (a .surface .now) (a .declarations .now) (a .index .now) (a .rows) (a .d) (a .root) (a .core .now) (l .core) (l .work) (l .st) (l .inv .0) (c .if1 .taken)
 
 work-step-requires : tie.Need-work-step-requires Inv-loop μ-loop
 work-step-requires c κs =
@@ -49,19 +49,19 @@ enum-known-r c = search needs
 
 loop-less : tie.Need-loop-less Inv-loop μ-loop
 loop-less c =
-    let o = c .before .before .before .before .before .before .before .before .before .before .before .before .before .before .before .before .before .before .before .before .before in
+    let o = c .before .before .before .before .before .before .before .before .before .before .before .before .before .before .before .before .before .before .before .before .before .before in
     let a = o .args in
     let l = c .before .before .before .before .before .before .before .before .before .before .before .loop in
     let k = c .before .before .before .before .before .before .before .work-step in
-    went (a .s .now) (a .surface .now) (a .declarations .now) (a .rows) (a .d) (a .root) (a .core .now) (l .core) (l .work) (l .st) (l .inv .0) (k .result) (k .last .1 .1 .1 .0) (k .last .1 .1 .1 .1 .0) (k .ensures) _ (c .before .r .given .1) .less
+    went (a .s .now) (a .surface .now) (a .declarations .now) (a .index .now) (a .rows) (a .d) (a .root) (a .core .now) (l .core) (l .work) (l .st) (l .inv .0) (k .result) (k .last .1 .1 .1 .0) (k .last .1 .1 .1 .1 .0) (k .ensures) _ (c .before .r .given .1) .less
 
 loop-again : tie.Need-loop-again Inv-loop μ-loop
 loop-again c =
-    let o = c .before .before .before .before .before .before .before .before .before .before .before .before .before .before .before .before .before .before .before .before .before in
+    let o = c .before .before .before .before .before .before .before .before .before .before .before .before .before .before .before .before .before .before .before .before .before .before in
     let a = o .args in
     let l = c .before .before .before .before .before .before .before .before .before .before .before .loop in
     let k = c .before .before .before .before .before .before .before .work-step in
-    (goes-on (a .s .now) (a .surface .now) (a .declarations .now) (a .rows) (a .d) (a .root) (a .core .now) (l .core) (l .work) (l .st) (l .inv .0) (k .result) (k .last .1 .1 .1 .0) (k .last .1 .1 .1 .1 .0) (k .ensures) _ (c .before .r .given .1) (k .kept .1 .1 .1 .1 .0), k .kept .1 .1 .1 .0 ∙ l .inv .1, k .kept .1 .1 .1 .1 .0 ∙ l .inv .2)
+    (goes-on (a .s .now) (a .surface .now) (a .declarations .now) (a .index .now) (a .rows) (a .d) (a .root) (a .core .now) (l .core) (l .work) (l .st) (l .inv .0) (k .result) (k .last .1 .1 .1 .0) (k .last .1 .1 .1 .1 .0) (k .ensures) _ (c .before .r .given .1) (k .kept .1 .1 .1 .1 .0), k .kept .1 .1 .1 .0 ∙ l .inv .1, k .kept .1 .1 .1 .1 .0 ∙ l .inv .2)
 
 enum-known-r-2 : tie.Need-enum-known-r-2 Inv-loop μ-loop
 enum-known-r-2 c = search needs
@@ -74,11 +74,11 @@ same-length-4 c = c .before .before .before .before .before .before .before .wor
 
 returns-2 : tie.Need-returns-2 Inv-loop μ-loop
 returns-2 c =
-    let o = c .before .before .before .before .before .before .before .before .before .before .before .before .before .before .before .before .before .before .before .before .before in
+    let o = c .before .before .before .before .before .before .before .before .before .before .before .before .before .before .before .before .before .before .before .before .before .before in
     let a = o .args in
     let l = c .before .before .before .before .before .before .before .before .before .before .before .loop in
     let k = c .before .before .before .before .before .before .before .work-step in
-    stops (a .s .now) (a .surface .now) (a .declarations .now) (a .rows) (a .d) (a .root) (a .core .now) (l .core) (l .work) (l .st) (l .inv .0) (k .result) (k .last .1 .1 .1 .0) (k .last .1 .1 .1 .1 .0) (k .ensures) _ _ (c .before .r2 .given .1)
+    stops (a .s .now) (a .surface .now) (a .declarations .now) (a .index .now) (a .rows) (a .d) (a .root) (a .core .now) (l .core) (l .work) (l .st) (l .inv .0) (k .result) (k .last .1 .1 .1 .0) (k .last .1 .1 .1 .1 .0) (k .ensures) _ _ (c .before .r2 .given .1)
 
 pub elaborate-term-spec : {M : Type 1} → statement M
 elaborate-term-spec =

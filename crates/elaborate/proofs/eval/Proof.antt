@@ -10,7 +10,7 @@ use Rattle.elaborate.proofs.eval.Tie as tie
 
 returns : tie.Need-returns
 returns c =
-    let o = c .before .before .before .before .before .before in
+    let o = c .before .before .before .before .before .before .before in
     let a = o .args in
     out-of-range (a .s .now) (a .surface .now) (a .declarations .now) (a .rows) (a .d) (a .core .now) (a .work .now) (a .st) (a .id) (a .left) (o .pre .1) (omega arith)
 
@@ -43,10 +43,10 @@ shared-slice-read-length c = search needs
 
 eval-reference-requires : tie.Need-eval-reference-requires
 eval-reference-requires c κs =
-    let o = c .before .before .before .before .before .before .before .before .before .before .before .before in
+    let o = c .before .before .before .before .before .before .before .before .before .before .before .before .before in
     let a = o .args in
     let b = eval-bounds (a .work .now) (a .st) (a .id) (a .left) (o .pre .1) in
-    (omega arith, omega arith, o .pre .0 .few, o .pre .0 .area)
+    (omega arith, omega arith, o .pre .0 .few, o .pre .0 .area, o .pre .0 .indexed)
 
 same-length : tie.Need-same-length
 same-length c = search needs
@@ -56,7 +56,7 @@ same-length-2 c = search needs
 
 returns-2 : tie.Need-returns-2
 returns-2 c =
-    let o = c .before .before .before .before .before .before .before .before .before .before .before .before .before .before .before .before .before in
+    let o = c .before .before .before .before .before .before .before .before .before .before .before .before .before .before .before .before .before .before in
     let a = o .args in
     let k = c .before .before .before .before .eval-reference in
     reference-stepped (a .s .now) (a .surface .now) (a .declarations .now) (a .rows) (a .d) (a .core .now) (a .work .now) (a .st) (a .id) (a .left) (o .pre .1) (let x = c .before .before .before .before .before .before .before .before .before .before .before .if1 .left in omega arith) (k .result) (k .last .1 .1 .0) (k .last .1 .1 .1 .0) (c .before .before .before .before .before .before .before .if2 .taken) (k .ensures)
@@ -69,7 +69,7 @@ core-row-requires c κs = search needs
 
 finish-requires : tie.Need-finish-requires
 finish-requires c κs =
-    let o = c .before .before .before .before .before .before .before .before .before .before .before .before .before .before .before in
+    let o = c .before .before .before .before .before .before .before .before .before .before .before .before .before .before .before .before in
     let a = o .args in
     let b = eval-bounds (a .work .now) (a .st) (a .id) (a .left) (o .pre .1) in
     (omega arith, o .pre .0 .area)
@@ -82,7 +82,7 @@ same-length-4 c = search needs
 
 returns-3 : tie.Need-returns-3
 returns-3 c =
-    let o = c .before .before .before .before .before .before .before .before .before .before .before .before .before .before .before .before .before .before .before .before in
+    let o = c .before .before .before .before .before .before .before .before .before .before .before .before .before .before .before .before .before .before .before .before .before in
     let a = o .args in
     let k = c .before .before .before .before .finish in
     let n = c .before .before .before .before .before .before .before .before .before .arity in
@@ -91,7 +91,7 @@ returns-3 c =
 
 returns-4 : tie.Need-returns-4
 returns-4 c =
-    let o = c .before .before .before .before .before .before .before .before .before .before .before .before .before in
+    let o = c .before .before .before .before .before .before .before .before .before .before .before .before .before .before in
     let a = o .args in
     let n = c .before .before .arity in
     too-deep (a .s .now) (a .surface .now) (a .declarations .now) (a .rows) (a .d) (a .core .now) (a .work .now) (a .st) (a .id) (a .left) (o .pre .1) (let x = c .before .before .before .before .before .before .before .if1 .left in omega arith) (c .before .before .before .if2 .left) (λ z. c .before .if3 .left (n .ensures ∙ z)) (c .if4 .taken)
@@ -101,7 +101,7 @@ sub-schedule-form c = search needs
 
 schedule-form-requires : tie.Need-schedule-form-requires
 schedule-form-requires c κs =
-    let o = c .before .before .before .before .before .before .before .before .before .before .before .before .before .before in
+    let o = c .before .before .before .before .before .before .before .before .before .before .before .before .before .before .before in
     let a = o .args in
     let b = eval-bounds (a .work .now) (a .st) (a .id) (a .left) (o .pre .1) in
     let x = c .before .before .before .before .before .before .before .before .if1 .left in
@@ -114,7 +114,7 @@ same-length-5 c = search needs
 
 returns-5 : tie.Need-returns-5
 returns-5 c =
-    let o = c .before .before .before .before .before .before .before .before .before .before .before .before .before .before .before .before .before in
+    let o = c .before .before .before .before .before .before .before .before .before .before .before .before .before .before .before .before .before .before in
     let a = o .args in
     let k = c .before .before .schedule-form in
     let n = c .before .before .before .before .before .before .arity in

@@ -1,5 +1,6 @@
 -- `eval_reference` meets its contract. Assumes nothing.
 use mathlib.Core.Path.{refl, sym, ap, _∙_}
+use native.Mathlib.Omega.{arith}
 use Rattle.terms.specs.Resolution.{is-unknown}
 use Rattle.scope.specs.Scope.{core-of-referent}
 use Rattle.elaborate.proofs.Finishing.{reference-done}
@@ -8,7 +9,7 @@ use Rattle.elaborate.proofs.eval_reference.Statement.{statement}
 use Rattle.elaborate.proofs.eval_reference.Tie as tie
 
 find-name-requires : tie.Need-find-name-requires
-find-name-requires c κs = search needs
+find-name-requires c κs = let o = c .before .before .before .before .before .before in (record { few = o .pre .0; there = omega (arith, o .pre .3) }, o .pre .2, o .pre .4)
 
 enum-known-r : tie.Need-enum-known-r
 enum-known-r c = search needs
@@ -39,9 +40,9 @@ same-length-2 c = search needs
 
 returns : tie.Need-returns
 returns c =
-    let o = c .before .before .before .before .before .before .before .before .before .before .before .before .before .before .before .before .before in
+    let o = c .before .before .before .before .before .before .before .before .before .before .before .before .before .before .before .before .before .before in
     let a = o .args in
-    reference-done (a .start) (a .length) (a .st) _ _ _ (sym (ap core-of-referent (c .before .before .before .before .before .before .before .before .before .r .given .1)) ∙ c .before .before .before .before .before .before .before .before .before .before .before .find-name .ensures (o .pre .0) (o .pre .2)) refl
+    reference-done (a .start) (a .length) (a .st) _ _ _ (sym (ap core-of-referent (c .before .before .before .before .before .before .before .before .before .r .given .1)) ∙ c .before .before .before .before .before .before .before .before .before .before .before .find-name .ensures) refl
     (c .before .before .before .before .before .before .before .reference-row .ensures) (c .before .before .before .before .finish .ensures)
 
 same-length-3 : tie.Need-same-length-3
@@ -52,9 +53,9 @@ same-length-4 c = search needs
 
 returns-2 : tie.Need-returns-2
 returns-2 c =
-    let o = c .before .before .before .before .before .before .before .before .before .before .before .before .before .before .before .before .before in
+    let o = c .before .before .before .before .before .before .before .before .before .before .before .before .before .before .before .before .before .before in
     let a = o .args in
-    reference-done (a .start) (a .length) (a .st) _ _ _ (sym (ap core-of-referent (c .before .before .before .before .before .before .before .before .before .r2 .given .1)) ∙ c .before .before .before .before .before .before .before .before .before .before .before .find-name .ensures (o .pre .0) (o .pre .2)) refl
+    reference-done (a .start) (a .length) (a .st) _ _ _ (sym (ap core-of-referent (c .before .before .before .before .before .before .before .before .before .r2 .given .1)) ∙ c .before .before .before .before .before .before .before .before .before .before .before .find-name .ensures) refl
     (c .before .before .before .before .before .before .before .reference-row2 .ensures) (c .before .before .before .before .finish2 .ensures)
 
 same-length-5 : tie.Need-same-length-5
@@ -62,8 +63,8 @@ same-length-5 c = search needs
 
 returns-3 : tie.Need-returns-3
 returns-3 c =
-    let o = c .before .before .before .before .before .before .before .before in
-    (ap is-unknown (sym (sym (ap core-of-referent (c .enum-told .given .1)) ∙ c .before .before .find-name .ensures (o .pre .0) (o .pre .2))), refl, refl)
+    let o = c .before .before .before .before .before .before .before .before .before in
+    (ap is-unknown (sym (sym (ap core-of-referent (c .enum-told .given .1)) ∙ c .before .before .find-name .ensures)), refl, refl)
 
 pub eval-reference-spec : {M : Type 1} → statement M
 eval-reference-spec =

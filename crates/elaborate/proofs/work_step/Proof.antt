@@ -17,7 +17,7 @@ enum-known-item c = search needs
 
 eval-requires : tie.Need-eval-requires
 eval-requires c κs =
-    let o = c .before .before .before .before .before .before .before .before .before .before .before .before .before in
+    let o = c .before .before .before .before .before .before .before .before .before .before .before .before .before .before in
     let a = o .args in
     let e = top-item (a .work .now) (a .st .works) _ _ (o .pre .1 .1 .0) (c .before .before .before .before .before .pop-work .ensures (omega arith)) (c .before .before .before .item .given .1) in
     let r = top-room _ _ (a .st) e (o .pre .1 .0) in
@@ -29,9 +29,9 @@ enum-known-item-2 c = search needs
 push-local-requires : tie.Need-push-local-requires
 push-local-requires c κs = search needs
 
-add-t30 : tie.Need-add-t30
-add-t30 c =
-    let o = c .before .before .before .before .before .before .before .before .before .before .before .before .before .before .before in
+add-t31 : tie.Need-add-t31
+add-t31 c =
+    let o = c .before .before .before .before .before .before .before .before .before .before .before .before .before .before .before .before in
     let a = o .args in
     let e = top-item (a .work .now) (a .st .works) _ _ (o .pre .1 .1 .0) (c .before .before .before .before .before .before .before .pop-work .ensures (omega arith)) (c .before .before .before .before .before .item2 .given .1) in
     let r = top-room _ _ (a .st) e (o .pre .1 .0) in
@@ -40,9 +40,9 @@ add-t30 c =
 enum-told : tie.Need-enum-told
 enum-told c = search needs
 
-sub-t32 : tie.Need-sub-t32
-sub-t32 c =
-    let o = c .before .before .before .before .before .before .before .before .before .before in
+sub-t33 : tie.Need-sub-t33
+sub-t33 c =
+    let o = c .before .before .before .before .before .before .before .before .before .before .before in
     let a = o .args in
     let e = top-item (a .work .now) (a .st .works) _ _ (o .pre .1 .1 .0) (c .before .before .pop-work .ensures (omega arith)) (c .enum-told .given .1) in
     let r = top-room _ _ (a .st) e (o .pre .1 .0) in
@@ -53,7 +53,7 @@ enum-known-item-3 c = search needs
 
 build-term-requires : tie.Need-build-term-requires
 build-term-requires c κs =
-    let o = c .before .before .before .before .before .before .before .before .before .before .before .before .before in
+    let o = c .before .before .before .before .before .before .before .before .before .before .before .before .before .before in
     let a = o .args in
     let e = top-item (a .work .now) (a .st .works) _ _ (o .pre .1 .1 .0) (c .before .before .before .before .before .pop-work .ensures (omega arith)) (c .before .before .before .item3 .given .1) in
     let r = top-room _ _ (a .st) e (o .pre .1 .0) in
@@ -68,7 +68,7 @@ same-length-2 c = search needs
 
 returns : tie.Need-returns
 returns c =
-    let o = c .before .before .before .before .before .before .before .before .before .before .before .before .before .before .before .before .before .before in
+    let o = c .before .before .before .before .before .before .before .before .before .before .before .before .before .before .before .before .before .before .before in
     let a = o .args in
     let e = top-item (a .work .now) (a .st .works) _ _ (o .pre .1 .1 .0) (c .before .before .before .before .before .before .before .before .before .before .pop-work .ensures (omega arith)) (c .before .before .before .before .before .before .before .before .item .given .1) in
     let r = top-room _ _ (a .st) e (o .pre .1 .0) in
@@ -80,7 +80,7 @@ same-length-3 c = search needs
 
 returns-2 : tie.Need-returns-2
 returns-2 c =
-    let o = c .before .before .before .before .before .before .before .before .before .before .before .before .before .before .before in
+    let o = c .before .before .before .before .before .before .before .before .before .before .before .before .before .before .before .before in
     let a = o .args in
     let e = top-item (a .work .now) (a .st .works) _ _ (o .pre .1 .1 .0) (c .before .before .before .before .before .before .before .pop-work .ensures (omega arith)) (c .before .before .before .before .before .item2 .given .1) in
     let r = top-room _ _ (a .st) e (o .pre .1 .0) in
@@ -93,7 +93,7 @@ same-length-4 c = search needs
 
 returns-3 : tie.Need-returns-3
 returns-3 c =
-    let o = c .before .before .before .before .before .before .before .before .before .before in
+    let o = c .before .before .before .before .before .before .before .before .before .before .before in
     let a = o .args in
     let e = top-item (a .work .now) (a .st .works) _ _ (o .pre .1 .1 .0) (c .before .before .pop-work .ensures (omega arith)) (c .enum-told .given .1) in
     let r = top-room _ _ (a .st) e (o .pre .1 .0) in
@@ -107,7 +107,7 @@ same-length-6 c = search needs
 
 returns-4 : tie.Need-returns-4
 returns-4 c =
-    let o = c .before .before .before .before .before .before .before .before .before .before .before .before .before .before .before .before .before .before in
+    let o = c .before .before .before .before .before .before .before .before .before .before .before .before .before .before .before .before .before .before .before in
     let a = o .args in
     let e = top-item (a .work .now) (a .st .works) _ _ (o .pre .1 .1 .0) (c .before .before .before .before .before .before .before .before .before .before .pop-work .ensures (omega arith)) (c .before .before .before .before .before .before .before .before .item3 .given .1) in
     let r = top-room _ _ (a .st) e (o .pre .1 .0) in
@@ -125,9 +125,9 @@ work-step-spec =
     eval-requires
     enum-known-item-2
     push-local-requires
-    add-t30
+    add-t31
     enum-told
-    sub-t32
+    sub-t33
     enum-known-item-3
     build-term-requires
     same-length

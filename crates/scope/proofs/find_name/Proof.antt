@@ -15,8 +15,8 @@ enum-known-l c = search needs
 enum-told : tie.Need-enum-told
 enum-told c = search needs
 
-find-global-requires : tie.Need-find-global-requires
-find-global-requires c κs = search needs
+find-indexed-requires : tie.Need-find-indexed-requires
+find-indexed-requires c κs = search needs
 
 enum-known-g : tie.Need-enum-known-g
 enum-known-g c = search needs
@@ -26,30 +26,30 @@ enum-told-2 c = search needs
 
 returns : tie.Need-returns
 returns c =
-    let a = c .before .before .before .before .before .before .before .args in
+    let a = c .before .before .before .before .before .before .before .before .args in
     let ls = local-names (a .s .now) (a .work .now) (a .depth) in
     let gs = declared-names (a .s .now) (a .declarations .now) 0 (a .d) in
-    λ h k. referred (a .s .now) ls gs (a .start) (a .length) _ _ (sym (ap place-of (c .before .l .given .1)) ∙ c .before .before .before .find-local .ensures h) refl
+    referred (a .s .now) ls gs (a .start) (a .length) _ _ (sym (ap place-of (c .before .l .given .1)) ∙ c .before .before .before .find-local .ensures) refl
 
 returns-2 : tie.Need-returns-2
 returns-2 c =
-    let a = c .before .before .before .before .before .before .before .before .before .before .args in
+    let a = c .before .before .before .before .before .before .before .before .before .before .before .args in
     let ls = local-names (a .s .now) (a .work .now) (a .depth) in
     let gs = declared-names (a .s .now) (a .declarations .now) 0 (a .d) in
     let x = c .before .before .before .before in
-    λ h k. referred (a .s .now) ls gs (a .start) (a .length) _ _
-    (sym (ap place-of (x .enum-told .given .1)) ∙ x .before .before .find-local .ensures h)
-    (sym (ap place-of (c .before .g .given .1)) ∙ c .before .before .before .find-global .ensures k)
+    referred (a .s .now) ls gs (a .start) (a .length) _ _
+    (sym (ap place-of (x .enum-told .given .1)) ∙ x .before .before .find-local .ensures)
+    (sym (ap place-of (c .before .g .given .1)) ∙ c .before .before .before .find-indexed .ensures)
 
 returns-3 : tie.Need-returns-3
 returns-3 c =
-    let a = c .before .before .before .before .before .before .before .before .before .args in
+    let a = c .before .before .before .before .before .before .before .before .before .before .args in
     let ls = local-names (a .s .now) (a .work .now) (a .depth) in
     let gs = declared-names (a .s .now) (a .declarations .now) 0 (a .d) in
     let x = c .before .before .before in
-    λ h k. referred (a .s .now) ls gs (a .start) (a .length) _ _
-    (sym (ap place-of (x .enum-told .given .1)) ∙ x .before .before .find-local .ensures h)
-    (sym (ap place-of (c .enum-told2 .given .1)) ∙ c .before .before .find-global .ensures k)
+    referred (a .s .now) ls gs (a .start) (a .length) _ _
+    (sym (ap place-of (x .enum-told .given .1)) ∙ x .before .before .find-local .ensures)
+    (sym (ap place-of (c .enum-told2 .given .1)) ∙ c .before .before .find-indexed .ensures)
 
 pub find-name-spec : {M : Type 1} → statement M
 find-name-spec =
@@ -58,7 +58,7 @@ find-name-spec =
     find-local-requires
     enum-known-l
     enum-told
-    find-global-requires
+    find-indexed-requires
     enum-known-g
     enum-told-2
     returns

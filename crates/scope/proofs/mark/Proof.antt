@@ -1,19 +1,19 @@
 -- `mark` meets its contract: the bytes before i are taken in. Assumes nothing.
-use Prim.Native.Nat.{_-_, _<_}
+use Prim.Native.Nat.{_-_, _/_, _<_}
 use mathlib.Core.Path.{_≡_, refl, sym, _∙_}
 use native.Mathlib.Omega.{arith}
 use native.Mathlib.Nat.{mod-lt}
 use lib.ListN.{length, drop}
-use Rattle.scope.specs.Marks.{mark-from, mark-of}
-use Rattle.scope.proofs.Marks.{mark-more, mark-end}
+use Rattle.scope.specs.Index.{mixed, mark-of}
+use Rattle.scope.proofs.Index.{mixed-more, mixed-end, marked, mark-low}
 use Rattle.scope.proofs.mark.Statement.{statement}
 use Rattle.scope.proofs.mark.Tie as tie
 
 abbrev Inv-loop : tie.InvT-loop
-Inv-loop x mark₀ i₀ mark i = (mark < 16384) × (mark-of x ≡ mark-from mark (drop i x))
+Inv-loop x mixed₀ i₀ m i = (m < 4294967296) × (mixed 0 x ≡ mixed m (drop i x))
 
 abbrev μ-loop : tie.MeasureT-loop
-μ-loop x mark₀ i₀ mark i = length x - i
+μ-loop x mixed₀ i₀ m i = length x - i
 
 loop-holds : tie.Need-loop-holds Inv-loop μ-loop
 loop-holds c = (omega arith, refl)
@@ -24,11 +24,11 @@ shared-slice-read-b c = omega arith
 cast-b : tie.Need-cast-b Inv-loop μ-loop
 cast-b c = omega (arith, c .shared-slice-known .given (c .before .before .loop .i))
 
-mul-mark : tie.Need-mul-mark Inv-loop μ-loop
-mul-mark c = omega arith
+add-mixed : tie.Need-add-mixed Inv-loop μ-loop
+add-mixed c = omega (arith, c .shared-slice-known .given (c .before .before .loop .i))
 
-add-mark : tie.Need-add-mark Inv-loop μ-loop
-add-mark c = omega (arith, c .shared-slice-known .given (c .before .before .loop .i))
+mul-mixed : tie.Need-mul-mixed Inv-loop μ-loop
+mul-mixed c = omega (arith, c .shared-slice-known .given (c .before .before .loop .i))
 
 add-i : tie.Need-add-i Inv-loop μ-loop
 add-i c = omega arith
@@ -39,10 +39,13 @@ loop-less c = omega arith
 loop-again : tie.Need-loop-again Inv-loop μ-loop
 loop-again c =
     let l = c .before .before .loop in
-    (mod-lt _ (omega arith), l .inv .1 ∙ mark-more _ _ _ (c .before .loop-test .taken))
+    (mod-lt _ (omega arith), l .inv .1 ∙ mixed-more _ _ _ (c .before .loop-test .taken))
 
 returns : tie.Need-returns Inv-loop μ-loop
-returns c = sym (c .before .loop .inv .1 ∙ mark-end _ _ _ (c .loop-test .left))
+returns c =
+    let l = c .before .loop in
+    let m : l .mixed / 1048576 ≡ mark-of (c .before .before .args .x .now) = marked _ _ (sym (l .inv .1 ∙ mixed-end _ _ _ (c .loop-test .left))) in
+    (m, rw m (mark-low _))
 
 pub mark-spec : {M : Type 1} → statement M
 mark-spec =
@@ -53,8 +56,8 @@ mark-spec =
     loop-holds
     shared-slice-read-b
     cast-b
-    mul-mark
-    add-mark
+    add-mixed
+    mul-mixed
     add-i
     loop-less
     loop-again
