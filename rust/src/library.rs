@@ -61,8 +61,11 @@ unsafe extern "C" {
     ) -> u8;
 }
 
+/// A class, 0 for an acceptance, a yes and a no; how many values follow, and the values.
+pub type Told = (u8, [u64; 3]);
+
 /// The class, 0 for acceptance; how many values follow, and the values.
-pub fn load(source: &[u8], lent: Tables<&mut [u32]>) -> (u8, [u64; 3]) {
+pub fn load(source: &[u8], lent: Tables<&mut [u32]>) -> Told {
     let mut answer = [0; 3];
     // SAFETY: each pointer comes with its slice's length, and the slices borrowed mutably are apart from all others.
     let class = unsafe {
@@ -85,7 +88,7 @@ pub fn load(source: &[u8], lent: Tables<&mut [u32]>) -> (u8, [u64; 3]) {
 }
 
 /// The class, 0 for yes and no; 1 and a row for a yes, 0 for a no.
-pub fn depends(source: &[u8], i: usize, j: usize, lent: Tables<&mut [u32]>) -> (u8, [u64; 3]) {
+pub fn depends(source: &[u8], i: usize, j: usize, lent: Tables<&mut [u32]>) -> Told {
     let mut answer = [0; 3];
     // SAFETY: as above; any numbers may be asked of.
     let class = unsafe {
@@ -110,7 +113,7 @@ pub fn depends(source: &[u8], i: usize, j: usize, lent: Tables<&mut [u32]>) -> (
 }
 
 /// The class, 0 for yes and no; 0 for a yes, 1 and a place for a no. The work area is that of `one`.
-pub fn same(first: &[u8], second: &[u8], one: Tables<&mut [u32]>, other: Tables<&mut [u32]>) -> (u8, [u64; 3]) {
+pub fn same(first: &[u8], second: &[u8], one: Tables<&mut [u32]>, other: Tables<&mut [u32]>) -> Told {
     let mut answer = [0; 3];
     // SAFETY: as above, for both sets.
     let class = unsafe {
