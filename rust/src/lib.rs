@@ -51,6 +51,7 @@ mod reference;
 mod refusal;
 mod row;
 mod tables;
+mod token;
 
 pub use atom::Atom;
 pub use comparison::Comparison;
@@ -62,6 +63,7 @@ pub use reference::{Reference, Target};
 pub use refusal::{Class, Refusal};
 pub use row::{Row, SurfaceRow};
 pub use tables::Tables;
+pub use token::{Token, TokenKind, token, tokens};
 
 /// Words of a row.
 pub const ROW_WORDS: usize = 8;

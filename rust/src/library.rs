@@ -142,3 +142,30 @@ pub fn same(first: &[u8], second: &[u8], one: Tables<&mut [u32]>, other: Tables<
     };
     (class, answer)
 }
+
+/// The token at or behind an offset: kind (0 for a refused byte), start, end.
+pub fn token(source: &[u8], at: usize) -> (u8, usize, usize) {
+    stand_in_token(source, at)
+}
+
+// until the library exports its own
+fn stand_in_token(source: &[u8], mut at: usize) -> (u8, usize, usize) {
+    let layout = |byte: u8| matches!(byte, 9 | 10 | 13 | 32);
+    let atom = |byte: u8| byte.is_ascii_alphanumeric() || byte == b'_' || byte == b'-';
+    loop {
+        match source.get(at) {
+            None => return (4, source.len(), source.len()),
+            Some(byte) if layout(*byte) => at += 1,
+            Some(b';') => at += source[at..].iter().position(|byte| *byte == 10).unwrap_or(source.len() - at),
+            Some(b'(') => return (1, at, at + 1),
+            Some(b')') => return (2, at, at + 1),
+            Some(byte) if !atom(*byte) => return (0, at, at),
+            Some(_) => break,
+        }
+    }
+    let end = source[at..].iter().position(|byte| !atom(*byte)).map_or(source.len(), |length| at + length);
+    match source.get(end) {
+        Some(byte) if !layout(*byte) && !matches!(byte, b'(' | b')' | b';') => (0, end, end),
+        _ => (3, at, end),
+    }
+}
