@@ -45,7 +45,7 @@ impl<'a> Work<'a> {
     pub fn exact(text: &'a [u8]) -> Self {
         let module = parse_surface(text).expect("a good source");
         let (rows, declarations) = (module.arena().len(), module.declarations().len());
-        Self { text, tables: Tables::new(rows, declarations), rows, declarations }
+        Self { text, tables: Tables::with_sizes(rows, declarations), rows, declarations }
     }
 
     /// Tables that suffice for every source: what is to spare is cleared in every turn.
@@ -68,7 +68,7 @@ impl<'a> Work<'a> {
 
     fn read(&mut self) -> usize {
         let source = black_box(self.text);
-        let Tables { surface, declarations, work, .. } = &mut self.tables;
+        let [surface, _, declarations, work] = self.tables.lend().into_words();
         // SAFETY: each pointer comes with its slice's length.
         unsafe {
             sulyterom_parse(
