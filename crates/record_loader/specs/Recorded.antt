@@ -30,7 +30,7 @@ recorded r surface core list work = record { answer = r; surface = surface; core
 
 -- The outcome of a call with words, with its declaration table as n records.
 abbrev pub with-records : ℕ → Outcome → Recorded
-with-records n o = recorded (o .answer) (o .surface) (o .core) (records-of (o .declarations) n) (o .work)
+with-records n o = recorded (o .answer) (o .tables .surface) (o .tables .core) (records-of (o .tables .declarations) n) (o .tables .work)
 
 -- The same of reading alone.
 pub record ParsedList : Type 0 where
@@ -43,7 +43,7 @@ abbrev pub parsed-list : ModuleRead → List ℕ → List Declaration → List �
 parsed-list r surface list work = record { answer = r; surface = surface; declarations = list; work = work }
 
 abbrev pub read-with-records : ℕ → Parsed → ParsedList
-read-with-records n o = parsed-list (o .answer) (o .surface) (records-of (o .declarations) n) (o .work)
+read-with-records n o = parsed-list (o .answer) (o .tables .surface) (records-of (o .tables .declarations) n) (o .tables .work)
 
 -- The words of a table that a list of so many records takes.
 abbrev pub front : ℕ → List ℕ → List ℕ → List ℕ
