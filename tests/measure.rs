@@ -31,10 +31,9 @@ fn main() {
     if has(count::WORD) {
         return count::turns(&cases);
     }
-    let counts = count::counts(&words, cases.len());
-    let of_case =
-        |(at, case)| Row { case, counts: counts.as_ref().map(|counts| counts[at]), seconds: clock::seconds(case) };
-    let rows: Vec<Row> = cases.iter().enumerate().map(of_case).collect();
+    let mut counts = count::counts(&words, &cases).map(Vec::into_iter);
+    let row = |case| Row { case, counts: counts.as_mut().and_then(Iterator::next), seconds: clock::seconds(case) };
+    let rows: Vec<Row> = cases.iter().map(row).collect();
     report::print(&kinds, &rows);
 }
 

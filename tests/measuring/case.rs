@@ -15,7 +15,7 @@ pub enum Outcome {
     Refused,
 }
 
-pub const TASKS: [Task; 2] = [Task::Read, Task::Load];
+pub const TASKS: [Task; 2] = [Task::Load, Task::Read];
 pub const OUTCOMES: [Outcome; 2] = [Outcome::Accepted, Outcome::Refused];
 
 pub struct Case {

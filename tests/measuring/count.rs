@@ -1,6 +1,6 @@
 //! Instructions, counted by valgrind's callgrind: one run for all cases, which writes down each turn by itself.
 use crate::case::Case;
-use crate::work::{WHOS, Who, Work};
+use crate::work::{Who, Work, whos};
 use std::process::Command;
 
 /// What the run is told to do besides the words that choose the cases.
@@ -9,9 +9,11 @@ pub const WORD: &str = "--count";
 /// The library's memset and memcpy use string instructions for long blocks, of which valgrind counts one a byte.
 const PLAIN: &str = "glibc.cpu.x86_rep_stosb_threshold=1000000000:glibc.cpu.x86_rep_movsb_threshold=1000000000";
 
-/// Turns of which the one with the fewest instructions counts. Ours are all alike; the Rust's memory is now and then put
-/// in order, and its keys for names are random.
-pub const TURNS: usize = 2;
+/// Turns that are counted, of which the one in the middle counts. Ours are alike; the Rust's keys for names are random,
+/// and its memory is now and then put in order.
+fn turns_of(who: Who) -> usize {
+    if who == Who::Rust { 5 } else { 1 }
+}
 
 /// A turn that callgrind knows by its name.
 #[unsafe(no_mangle)]
@@ -24,15 +26,28 @@ pub fn counted_turn(work: &mut Work, who: Who) {
 pub fn turns(cases: &[Case]) {
     for case in cases {
         let mut work = Work::new(case);
-        for who in WHOS {
-            work.turn(who);
-            (0..TURNS).for_each(|_| counted_turn(&mut work, who));
+        for who in whos(case.task) {
+            work.turn(*who);
+            (0..turns_of(*who)).for_each(|_| counted_turn(&mut work, *who));
         }
     }
 }
 
-/// The instructions of each case, in order; none without valgrind.
-pub fn counts(words: &[String], cases: usize) -> Option<Vec<[u64; WHOS.len()]>> {
+/// The instructions of each case by each who has the task, in order; none without valgrind.
+pub fn counts(words: &[String], cases: &[Case]) -> Option<Vec<Vec<u64>>> {
+    let mut totals = totals(words)?.into_iter();
+    let mut middle = |who: &Who| {
+        let mut turns: Vec<u64> = totals.by_ref().take(turns_of(*who)).collect();
+        turns.sort_unstable();
+        turns[turns.len() / 2]
+    };
+    let counts = cases.iter().map(|case| whos(case.task).iter().map(&mut middle).collect()).collect();
+    assert_eq!(totals.count(), 0, "turns of no case");
+    Some(counts)
+}
+
+/// The instructions of every turn.
+fn totals(words: &[String]) -> Option<Vec<u64>> {
     let profile = format!("target/reference/measure.{}.profile", std::process::id());
     let mut valgrind = Command::new("valgrind");
     valgrind.args(["--tool=callgrind", "--combine-dumps=yes", &format!("--callgrind-out-file={profile}")]);
@@ -41,10 +56,7 @@ pub fn counts(words: &[String], cases: usize) -> Option<Vec<[u64; WHOS.len()]>> 
     let said = std::fs::read_to_string(&profile).unwrap_or_default();
     let _ = std::fs::remove_file(&profile);
     assert!(run.status.success(), "{}", String::from_utf8_lossy(&run.stderr));
-    let totals: Vec<u64> = said.split("desc: Trigger: --dump-after").skip(1).filter_map(total).collect();
-    assert_eq!(totals.len(), cases * WHOS.len() * TURNS, "turns counted");
-    let fewest: Vec<u64> = totals.chunks(TURNS).filter_map(|turns| turns.iter().min().copied()).collect();
-    Some(fewest.chunks(WHOS.len()).map(|whos| whos.try_into().expect("all of a case")).collect())
+    Some(said.split("desc: Trigger: --dump-after").skip(1).filter_map(total).collect())
 }
 
 /// The instructions of one part of a profile.

@@ -1,27 +1,27 @@
 //! The table that says of each kind whether the goal is reached.
 use crate::case::{OUTCOMES, Outcome, Task};
 use crate::kinds::{Kind, SIZES};
-use crate::row::{Row, head, line, marked, number, ratio};
+use crate::row::{Row, compared, head, line, marked, number, ratio, titles};
 use crate::work::Who;
 
 /// Cost a byte of the long source against that of the medium one.
 const GROWTH: f64 = 1.2;
-/// With fresh tables no more is asked than not to be behind.
-const FRESH: f64 = 1.0;
+/// What is asked of reading, and of loading where the tables are not lent again: not to be behind.
+const EVEN: f64 = 1.0;
 
 /// What a kind's rows say together.
-struct Result<'a> {
+struct Summary<'a> {
     kind: &'static Kind,
     task: Task,
     rows: Vec<&'a Row<'a>>,
 }
 
-impl Result<'_> {
-    /// Reading is only to be no more than the Rust's.
+impl Summary<'_> {
     fn goal(&self) -> f64 {
-        if self.task == Task::Load { self.kind.goal } else { 1.0 }
+        if self.task == Task::Load { self.kind.goal } else { EVEN }
     }
 
+    /// The least of what the rows of these outcomes say.
     fn least(&self, outcomes: &[Outcome], of: impl Fn(&Row) -> Option<f64>) -> Option<f64> {
         let rows = self.rows.iter().filter(|row| outcomes.contains(&row.case.outcome));
         rows.filter_map(|row| of(row)).reduce(f64::min)
@@ -31,8 +31,10 @@ impl Result<'_> {
         self.least(&[outcome], |row| row.fewer(Who::Lent))
     }
 
-    fn fewer_fresh(&self) -> Option<f64> {
-        self.least(&OUTCOMES, |row| row.fewer(Who::Fresh))
+    /// Those whose tables are not lent again, with how many times fewer their instructions are.
+    fn others(&self) -> Vec<(Who, Option<f64>)> {
+        let others = compared(self.task).into_iter().filter(|who| *who != Who::Lent);
+        others.map(|who| (who, self.least(&OUTCOMES, |row| row.fewer(who)))).collect()
     }
 
     /// Instructions a byte of an accepted source.
@@ -46,14 +48,15 @@ impl Result<'_> {
     }
 
     /// What of the goal is missing.
-    fn missing(&self) -> Vec<&'static str> {
+    fn missing(&self) -> Vec<String> {
         let below = |value: Option<f64>, asked: f64| value.is_some_and(|value| value < asked);
-        let tests = [
-            ("accepted", below(self.fewer(Outcome::Accepted), self.goal())),
-            ("refused", below(self.fewer(Outcome::Refused), self.goal())),
-            ("fresh tables", below(self.fewer_fresh(), FRESH)),
-            ("growth", self.growth().is_some_and(|growth| growth > GROWTH)),
+        let mut tests = vec![
+            ("accepted".to_owned(), below(self.fewer(Outcome::Accepted), self.goal())),
+            ("refused".to_owned(), below(self.fewer(Outcome::Refused), self.goal())),
+            ("growth".to_owned(), self.growth().is_some_and(|growth| growth > GROWTH)),
         ];
+        let others = self.others().into_iter().map(|(who, fewer)| (titles("", &[who]).concat(), below(fewer, EVEN)));
+        tests.extend(others);
         tests.into_iter().filter(|test| test.1).map(|test| test.0).collect()
     }
 
@@ -66,18 +69,14 @@ impl Result<'_> {
     }
 
     fn cells(&self) -> Vec<String> {
-        let quicker = |who| ratio(self.least(&OUTCOMES, |row| row.quicker(who)), 1.0);
         let mut cells = vec![self.kind.name.to_owned(), number(Some(self.goal()), 1)];
         cells.extend(self.costs());
-        cells.extend([
-            marked(self.growth(), |growth| growth <= GROWTH),
-            ratio(self.fewer(Outcome::Accepted), self.goal()),
-            ratio(self.fewer(Outcome::Refused), self.goal()),
-            ratio(self.fewer_fresh(), FRESH),
-            quicker(Who::Lent),
-            quicker(Who::Fresh),
-            self.reached(),
-        ]);
+        cells.push(marked(self.growth(), |growth| growth <= GROWTH));
+        cells.extend(OUTCOMES.map(|outcome| ratio(self.fewer(outcome), self.goal())));
+        cells.extend(self.others().iter().map(|other| ratio(other.1, EVEN)));
+        let quicker = |who| self.least(&OUTCOMES, |row| row.quicker(who));
+        cells.extend(compared(self.task).into_iter().map(|who| ratio(quicker(who), EVEN)));
+        cells.push(self.reached());
         cells
     }
 
@@ -90,29 +89,25 @@ impl Result<'_> {
     }
 }
 
-const TITLES: [&str; 11] = [
-    "goal",
-    "instructions a byte at 1,000",
-    "at 8,000",
-    "at 64,000",
-    "growth",
-    "times fewer",
-    "refused",
-    "fresh tables",
-    "times quicker",
-    "fresh tables",
-    "reached",
-];
+fn all_titles(task: Task) -> Vec<String> {
+    let first = [&*task.to_string(), "goal", "instructions a byte at 1,000", "at 8,000", "at 64,000", "growth"];
+    let mut all = first.map(str::to_owned).to_vec();
+    all.extend(["times fewer, accepted".to_owned(), "refused".to_owned()]);
+    all.extend(titles("", &compared(task)).into_iter().skip(1));
+    all.extend(titles("times quicker", &compared(task)));
+    all.push("reached".to_owned());
+    all
+}
 
 /// A line for each kind, and behind them how many reach the goal.
 pub fn print(task: Task, kinds: &[&'static Kind], rows: &[Row]) {
-    println!("{}", head(&[&[&*task.to_string()], &TITLES[..]].concat()));
+    println!("\n{}", head(&all_titles(task)));
     let of_kind = |kind: &&'static Kind| {
         let rows = rows.iter().filter(|row| row.case.task == task && row.case.kind.name == kind.name).collect();
-        Result { kind, task, rows }
+        Summary { kind, task, rows }
     };
-    let results: Vec<Result> = kinds.iter().map(of_kind).collect();
-    results.iter().for_each(|result| println!("{}", line(&result.cells())));
-    let reached = results.iter().filter(|result| result.missing().is_empty()).count();
-    println!("\nThe goal of {task} is reached on {reached} of {} kinds.\n", results.len());
+    let summaries: Vec<Summary> = kinds.iter().map(of_kind).collect();
+    summaries.iter().for_each(|summary| println!("{}", line(&summary.cells())));
+    let reached = summaries.iter().filter(|summary| summary.missing().is_empty()).count();
+    println!("\nThe goal of {task} is reached on {reached} of {} kinds.", summaries.len());
 }

@@ -1,23 +1,27 @@
 //! What was measured of a case, and how a cell of a table shows it.
-use crate::case::Case;
-use crate::work::{WHOS, Who};
+use crate::case::{Case, Task};
+use crate::work::{Who, whos};
 
 pub struct Row<'a> {
     pub case: &'a Case,
-    /// None without valgrind.
-    pub counts: Option<[u64; WHOS.len()]>,
-    pub seconds: [f64; WHOS.len()],
+    /// Of each who has the task; none without valgrind.
+    pub counts: Option<Vec<u64>>,
+    pub seconds: Vec<f64>,
 }
 
 impl Row<'_> {
+    fn place(&self, who: Who) -> Option<usize> {
+        whos(self.case.task).iter().position(|one| *one == who)
+    }
+
     /// Instructions a byte.
     pub fn instructions(&self, who: Who) -> Option<f64> {
-        self.counts.map(|counts| counts[who as usize] as f64 / self.case.text.len() as f64)
+        Some(self.counts.as_ref()?[self.place(who)?] as f64 / self.case.text.len() as f64)
     }
 
     /// Million bytes a second.
     pub fn rate(&self, who: Who) -> Option<f64> {
-        Some(self.case.text.len() as f64 / self.seconds[who as usize] / 1e6)
+        Some(self.case.text.len() as f64 / self.seconds[self.place(who)?] / 1e6)
     }
 
     /// How many times fewer instructions than the Rust's.
@@ -27,8 +31,25 @@ impl Row<'_> {
 
     /// How many times quicker than the Rust.
     pub fn quicker(&self, who: Who) -> Option<f64> {
-        Some(self.seconds[Who::Rust as usize] / self.seconds[who as usize])
+        Some(self.rate(who)? / self.rate(Who::Rust)?)
     }
+}
+
+/// Those of a task that are compared with the Rust.
+pub fn compared(task: Task) -> Vec<Who> {
+    whos(task).iter().copied().filter(|who| ![Who::Longest, Who::Rust].contains(who)).collect()
+}
+
+/// The columns of one measure, which is named where the tables are lent again.
+pub fn titles(measure: &str, whos: &[Who]) -> Vec<String> {
+    let title = |who: &Who| match who {
+        Who::Lent => measure,
+        Who::Fresh => "fresh tables",
+        Who::Longest => "longest tables",
+        Who::Kept => "`Loader`",
+        Who::Rust => "the Rust",
+    };
+    whos.iter().map(|who| title(who).to_owned()).collect()
 }
 
 pub fn number(value: Option<f64>, digits: usize) -> String {
@@ -52,6 +73,6 @@ pub fn line(cells: &[String]) -> String {
 }
 
 /// The head of a table: the first column is of words, all others of numbers.
-pub fn head(titles: &[&str]) -> String {
-    format!("| {} |\n|---|{}", titles.join(" | "), "---:|".repeat(titles.len() - 1))
+pub fn head(titles: &[String]) -> String {
+    format!("{}\n|---|{}", line(titles), "---:|".repeat(titles.len() - 1))
 }

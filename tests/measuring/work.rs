@@ -2,7 +2,7 @@
 use crate::case::{Case, Task};
 use hott_kernel::surface::{elaborate_surface, parse_surface};
 use std::hint::black_box;
-use sulyterom::{LONGEST_SOURCE, Tables, load};
+use sulyterom::{LONGEST_SOURCE, Loader, Tables, load};
 
 // A slice passes as a pointer and then a length.
 #[link(name = "probe", kind = "static")]
@@ -24,27 +24,36 @@ unsafe extern "C" {
 pub enum Who {
     /// Lent again in every turn with what the turn before left; no row or record to spare.
     Lent,
-    /// Allocated and freed in every turn, as for any source of that length.
+    /// Allocated and freed in every turn, as any source of that length may need them.
     Fresh,
-    /// Lent again, as for any source; what is to spare is cleared in every turn.
+    /// Lent again, as any source may need them; what is to spare is cleared in every turn.
     Longest,
+    /// Kept from turn to turn by the Rust crate's `Loader`.
+    Kept,
     /// The Rust allocates and frees its own in every turn.
     Rust,
 }
 
-pub const WHOS: [Who; 4] = [Who::Lent, Who::Fresh, Who::Longest, Who::Rust];
+/// Who has the task: the crate's `Loader` does not only read.
+pub fn whos(task: Task) -> &'static [Who] {
+    match task {
+        Task::Read => &[Who::Lent, Who::Fresh, Who::Longest, Who::Rust],
+        Task::Load => &[Who::Lent, Who::Fresh, Who::Longest, Who::Kept, Who::Rust],
+    }
+}
 
-/// A case with the tables that are lent for it.
+/// A case with the tables that are lent or kept for it.
 pub struct Work<'a> {
     case: &'a Case,
     lent: Tables,
     longest: Tables,
+    loader: Loader,
 }
 
 impl<'a> Work<'a> {
     pub fn new(case: &'a Case) -> Self {
-        let lent = Tables::new(case.rows, case.declarations);
-        Self { case, lent, longest: Tables::for_bytes(LONGEST_SOURCE) }
+        let lent = Tables::with_sizes(case.rows, case.declarations);
+        Self { case, lent, longest: Tables::for_bytes(LONGEST_SOURCE), loader: Loader::new() }
     }
 
     pub fn turn(&mut self, who: Who) {
@@ -53,6 +62,7 @@ impl<'a> Work<'a> {
             Who::Lent => by_us(task, text, &mut self.lent),
             Who::Fresh => by_us(task, text, &mut Tables::for_bytes(text.len())),
             Who::Longest => by_us(task, text, &mut self.longest),
+            Who::Kept => self.loader.load(black_box(text)).map_or(0, |loaded| loaded.row_count()),
             Who::Rust => by_rust(task, text),
         };
         assert_eq!(black_box(rows), self.case.answer(), "rows of {}, {who:?}", self.case.kind.name);
@@ -76,7 +86,7 @@ fn by_rust(task: Task, text: &[u8]) -> usize {
 }
 
 fn read(source: &[u8], tables: &mut Tables) -> usize {
-    let Tables { surface, declarations, work, .. } = tables;
+    let [surface, _, declarations, work] = tables.lend().into_words();
     // SAFETY: each pointer comes with its slice's length.
     unsafe {
         sulyterom_parse(

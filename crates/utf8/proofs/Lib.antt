@@ -1,6 +1,6 @@
 mod FirstBytes
-mod OtherBytes
 mod ValidFrom
+mod Sequences
 mod Passed
 mod Runs
 mod Mark
