@@ -2,6 +2,7 @@
 use crate::kinds::Kind;
 use hott_kernel::surface::parse_surface;
 use std::fmt;
+use sulyterom::Class;
 
 #[derive(Clone, Copy, Debug, PartialEq)]
 pub enum Task {
@@ -34,6 +35,15 @@ impl Case {
     /// The rows that are answered: none after a refusal.
     pub fn answer(&self) -> usize {
         if self.outcome == Outcome::Accepted { self.rows } else { 0 }
+    }
+
+    /// Why it is refused.
+    pub fn refusal(&self) -> Option<Class> {
+        match (self.task, self.outcome) {
+            (_, Outcome::Accepted) => None,
+            (Task::Read, Outcome::Refused) => Some(Class::Malformed),
+            (Task::Load, Outcome::Refused) => Some(Class::UnknownName),
+        }
     }
 
     pub fn is(&self, task: Task, outcome: Outcome) -> bool {

@@ -39,7 +39,7 @@ pub const KINDS: [Kind; 25] = [
     kind("marks-heads", "names of 40 bytes made to share one mark and a head of 35", EVEN, marks::long),
     kind(
         "names",
-        "names of 45 to 48 bytes that share a tail, each declaration refers to an earlier one",
+        "names of 45 to 47 bytes that share a tail, each declaration refers to an earlier one",
         EVEN,
         declared::names,
     ),

@@ -52,7 +52,9 @@ pub struct Work<'a> {
 
 impl<'a> Work<'a> {
     pub fn new(case: &'a Case) -> Self {
-        let lent = Tables::with_sizes(case.rows, case.declarations);
+        let mut lent = Tables::with_sizes(case.rows, case.declarations);
+        let refusal = load(&case.text, &mut lent).err();
+        assert_eq!(refusal.map(|refusal| refusal.class), case.refusal(), "class of {}", case.kind.name);
         Self { case, lent, longest: Tables::for_bytes(LONGEST_SOURCE), loader: Loader::new() }
     }
 
