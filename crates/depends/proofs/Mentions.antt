@@ -66,10 +66,10 @@ module _ (s : List ℕ) (z : Lengths) (ds : List Declaration) (q : Position) (e 
   m = resolve-module s [] ds
 
   abbrev core : List ℕ
-  core = outcome s z (done ds q) .core
+  core = outcome s z (done ds q) .tables .core
 
   abbrev records : List ℕ
-  records = outcome s z (done ds q) .declarations
+  records = outcome s z (done ds q) .tables .declarations
 
   rows-fit : length (core-rows 0 m) * 8 ≤ z .core
   rows-fit = omega (arith, total-core s [] 0 ds, is-read s z ds q (is-loaded s z ds q e .read) .enough .core)

@@ -9,17 +9,16 @@ use Rattle.terms.specs.Resolution.{RefusedName, first-refused, resolve-module}
 use Rattle.terms.specs.Rows.{joined, surface-rows, core-rows, declaration-records}
 use Rattle.surface.specs.declared.Answer.{Answer}
 use Rattle.surface.specs.Reader.{Position, Result, done, refused, nowhere}
-use Rattle.surface.specs.Loading.{Lengths, Outcome}
+use Rattle.surface.specs.Tables.{Lengths, tables, lengths, leaves}
+use Rattle.surface.specs.Loading.{Outcome}
 use Rattle.surface.specs.SameCore.{row-count, declaration-count}
 
--- The lengths of the tables that a call is lent.
+-- The same by the words of each table.
 abbrev pub lengths-of : List ℕ → List ℕ → List ℕ → List ℕ → Lengths
-lengths-of surface core declarations work =
-    record { surface = length surface; core = length core; declarations = length declarations; work = length work }
+lengths-of surface core declarations work = lengths (tables surface core declarations work)
 
--- What the call leaves: its answer, and what stands in the tables.
 abbrev pub leaving : Answer → List ℕ → List ℕ → List ℕ → List ℕ → Outcome
-leaving r surface core declarations work = record { answer = r; surface = surface; core = core; declarations = declarations; work = work }
+leaving r surface core declarations work = leaves r (tables surface core declarations work)
 
 -- The answer before the tables are cleared behind what was stored: rows and records stand at the beginning of their tables.
 abbrev pub Stores : List ℕ → Result (List Declaration) → Answer → List ℕ → List ℕ → List ℕ → Type 0

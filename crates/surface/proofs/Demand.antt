@@ -35,9 +35,9 @@ fifth n k h = omega arith
 
 -- What stands in the tables of a source that is loaded, up to the counts of the answer.
 pub record Stands (s : List ℕ) (ds : List Declaration) (o : Outcome) : Type 0 where
-  pub surface : first-rows 8 (row-count (o .answer)) (o .surface) ≡ surface-rows 0 ds
-  pub core : first-rows 8 (row-count (o .answer)) (o .core) ≡ core-rows 0 (resolve-module s [] ds)
-  pub declarations : first-rows 5 (declaration-count (o .answer)) (o .declarations) ≡ declaration-records 0 (resolve-module s [] ds)
+  pub surface : first-rows 8 (row-count (o .answer)) (o .tables .surface) ≡ surface-rows 0 ds
+  pub core : first-rows 8 (row-count (o .answer)) (o .tables .core) ≡ core-rows 0 (resolve-module s [] ds)
+  pub declarations : first-rows 5 (declaration-count (o .answer)) (o .tables .declarations) ≡ declaration-records 0 (resolve-module s [] ds)
 
 pub stands : (s : List ℕ) (z : Lengths) (ds : List Declaration) (q : Position) → loading s z start ≡ done ds q → Stands s ds (outcome s z (done ds q))
 stands s z ds q e =
@@ -57,8 +57,8 @@ pub record Contents (s : List ℕ) (o : Outcome) : Type 0 where
   pub module-read : List Declaration
   pub derives : Derives s module-read
   pub resolves : resolves [] (map (named-declaration s) module-read) ≡ true
-  pub rows : map (row-content s) (first-rows 8 (row-count (o .answer)) (o .core)) ≡ rows-of 0 (cores [] (map (named-declaration s) module-read))
-  pub records : map (record-content s) (first-rows 5 (declaration-count (o .answer)) (o .declarations)) ≡ records-of 0 (cores [] (map (named-declaration s) module-read))
+  pub rows : map (row-content s) (first-rows 8 (row-count (o .answer)) (o .tables .core)) ≡ rows-of 0 (cores [] (map (named-declaration s) module-read))
+  pub records : map (record-content s) (first-rows 5 (declaration-count (o .answer)) (o .tables .declarations)) ≡ records-of 0 (cores [] (map (named-declaration s) module-read))
 
 pub contents : (s : List ℕ) (z : Lengths) → Accepts (load s z) → Contents s (load s z)
 unfolding load
@@ -93,8 +93,8 @@ same-core s t o p a b =
           let u = a .rows ∙ c .same-rows ∙ sym (b .rows) in
           let v = a .records ∙ c .same-records ∙ sym (b .records) in
           record {
-            row-counts = same-count (row-content s) (row-content t) 8 (row-count (o .answer)) (row-count (p .answer)) (o .core) (p .core) u;
-            declaration-counts = same-count (record-content s) (record-content t) 5 (declaration-count (o .answer)) (declaration-count (p .answer)) (o .declarations) (p .declarations) v;
+            row-counts = same-count (row-content s) (row-content t) 8 (row-count (o .answer)) (row-count (p .answer)) (o .tables .core) (p .tables .core) u;
+            declaration-counts = same-count (record-content s) (record-content t) 5 (declaration-count (o .answer)) (declaration-count (p .answer)) (o .tables .declarations) (p .tables .declarations) v;
             same-rows = u;
             same-declarations = v;
           },

@@ -13,7 +13,7 @@ use Rattle.surface.specs.declared.Answer.{Answer}
 use Rattle.surface.specs.declared.Answer.the-variants.{Loaded, Refused}
 use Rattle.surface.specs.Reader.{nowhere, at-offset}
 use Rattle.surface.specs.Reading.{store, finish, several, term, token, opening, closing, atom, word, natural, declaration-kind, name, bare, tagged, known, beginning-on, beginning, body, declared, declaration, onwards, declarations, edition-of, supported, surface-line, module-line, head, read-module}
-use Rattle.surface.specs.Loading.{Lengths, parsing, reading, loading, Outcome, load}
+use Rattle.surface.specs.Loading.{Lengths, tables, leaves, parsing, reading, loading, Outcome, load}
 
 -- A source, the lengths of the lent tables, and all that loading leaves.
 pub record Reading : Type 0 where
@@ -30,7 +30,7 @@ abbrev pub gives : List ℕ → Answer → List ℕ → List ℕ → List ℕ �
 gives s a surface core declarations = record {
   source = s;
   lent = listing-lengths;
-  leaves = record { answer = a; surface = pad 8192 surface; core = pad 8192 core; declarations = pad 1280 declarations; work = pad 16384 [] };
+  leaves = leaves a (tables (pad 8192 surface) (pad 8192 core) (pad 1280 declarations) (pad 16384 []));
 }
 
 abbrev pub refuses-at : List ℕ → ℕ → ℕ → Reading

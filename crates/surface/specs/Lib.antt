@@ -2,6 +2,7 @@ pub mod Text
 pub mod Grammar
 pub mod Reader
 pub mod Reading
+pub mod Tables
 pub mod Loading
 pub mod SameCore
 pub mod Agreement

@@ -4,25 +4,7 @@ use crate::questions::{self, Declaration, Storage};
 use std::ffi::{OsStr, OsString};
 use std::path::Path;
 
-const HELP: &str = "\
-usage: sulyterom list [--large] FILE    load a hott-surface/0.1 source and print its core module
-       sulyterom references FILE        print what each reference stands for: line:column, the name, and
-                                        'var COUNT' or 'global PLACE NAME'
-       sulyterom depends FILE I J       whether declaration I mentions J: 'yes ROW' with a row of I that names J, or 'no'
-       sulyterom same FILE FILE         whether two sources leave the same core: 'same' or 'different at declaration K'
-       sulyterom tokens FILE            print the tokens, a line each: start, end, text
-       sulyterom --help | --version
-
-FILE may be - for standard input. I and J are names of declarations, or their places from 0 as the listing has them.
-list lends the tables of document 01, for 1,024 terms and 256 declarations; --large lends enough for every source of at
-most 65,535 bytes, as the other words do.
-
-A refused source prints 'refused CLASS' or 'refused CLASS at OFFSET', of same with 'first' or 'second' before it, and a
-sentence on standard error. docs/REFERENCE.md has the classes.
-
-Exit status: 0 accepted, yes or the same; 1 no or different; 2 refused; 3 the question could not be asked, or the answer
-could not be written.
-";
+const HELP: &str = include_str!("../help.txt");
 
 /// Words of the repository's script, which the program does not have.
 const SCRIPT_WORDS: [&str; 3] = ["build", "install", "dist"];
