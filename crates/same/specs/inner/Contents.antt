@@ -1,11 +1,11 @@
--- Rows and records of two pairs of tables, compared by what counts of them. Cited by inner contracts only. Assumes nothing.
+-- Rows and records of two pairs of tables, compared by what counts of them. Assumes nothing.
 use mathlib.Core.Path.{_≡_}
 use mathlib.Core.List.{List, [], _∷_}
 use mathlib.Core.Bool.{Bool, true, false}
 use Prim.Native.Nat.{ℕ, zero, suc, _+_, _*_, _≤_, _<_}
 use lib.ListN.{getD}
 use Rattle.terms.specs.Label.{part}
-use Rattle.depends.specs.Search.{row-behind, first-row}
+use Rattle.depends.specs.inner.Search.{row-behind, first-row}
 use Rattle.terms.specs.Content.{row-content, record-content}
 use Rattle.same.specs.declared.Comparison.{Comparison}
 
