@@ -7,8 +7,8 @@ use std::{env, fs, process};
 /// The file of a definition as CRATE/FILE, and its name.
 type Name = (String, String);
 
-/// A file of definitions, or of code: what it takes from elsewhere, and its own definitions with the words in them. A field or
-/// constructor stands for the record or type that it belongs to.
+/// A file of definitions, or of code: what it takes from elsewhere, and its own definitions with the words in them. A constructor
+/// stands for the type that it belongs to; a field goes without saying, as its record is named where it is used.
 #[derive(Default)]
 struct File {
     imported: HashMap<String, Name>,
@@ -47,20 +47,20 @@ fn defined(line: &str) -> Option<&str> {
 /// A file of specs/. What is indented deeper than the definitions around it belongs to the one above it.
 fn specs(text: &str) -> File {
     let mut file = File::default();
-    let (mut base, mut current) = (0, String::new());
+    let (mut base, mut current, mut is_type) = (0, String::new(), false);
     for line in text.lines() {
         let start = line.trim_start();
         let indent = line.len() - start.len();
-        if start.starts_with("use ") {
+        if start.starts_with("use ") || start.starts_with("pub use ") {
             import(line, &mut file);
         } else if start.starts_with("module ") {
             base = indent + 2;
         } else if !start.is_empty() && !start.starts_with("--") {
             base = base.min(indent);
             match defined(line) {
-                Some(name) if indent == base => current = name.to_string(),
-                Some(name) => drop(file.owner.insert(name.to_string(), current.clone())),
-                None => {}
+                Some(name) if indent == base => (current, is_type) = (name.to_string(), line.contains("data ")),
+                Some(name) if is_type => drop(file.owner.insert(name.to_string(), current.clone())),
+                _ => {}
             }
             file.words.entry(current.clone()).or_default().extend(words(line).map(str::to_string));
         }
@@ -90,21 +90,25 @@ fn called(path: &Path) -> Option<String> {
     Some(format!("{of}/{}", file.strip_suffix(".antt")?.replace('/', ".")))
 }
 
+/// Where a name that a file has is defined: there, as a constructor of a type there, or in the file that it is taken from.
+fn home(all: &HashMap<String, File>, at: &str, name: &str) -> Option<Name> {
+    let file = all.get(at)?;
+    if file.words.contains_key(name) {
+        return Some((at.to_string(), name.to_string()));
+    }
+    if let Some(owner) = file.owner.get(name) {
+        return Some((at.to_string(), owner.clone()));
+    }
+    let (other, name) = file.imported.get(name)?;
+    home(all, other, name)
+}
+
 /// All that the open names lead to, by file.
 fn closure(all: &HashMap<String, File>, mut open: Vec<Name>) -> BTreeMap<String, BTreeSet<String>> {
     let mut found: BTreeMap<String, BTreeSet<String>> = BTreeMap::new();
     while let Some((at, name)) = open.pop() {
-        let Some(file) = all.get(&at) else { continue };
-        let name = if file.words.contains_key(&name) { Some(&name) } else { file.owner.get(&name) };
-        let Some(name) = name.filter(|name| found.entry(at.clone()).or_default().insert((*name).clone())) else {
-            continue;
-        };
-        for word in file.words.get(name).into_iter().flatten() {
-            if let Some(other) = file.imported.get(word) {
-                open.push(other.clone());
-            } else if file.words.contains_key(word) || file.owner.contains_key(word) {
-                open.push((at.clone(), word.clone()));
-            }
+        if found.entry(at.clone()).or_default().insert(name.clone()) {
+            open.extend(all[&at].words[&name].iter().filter_map(|word| home(all, &at, word)));
         }
     }
     found
@@ -121,7 +125,8 @@ fn main() {
         eprintln!("usage: believed [CRATE::]FUNCTION; there is no function '{asked}'");
         process::exit(2);
     };
-    let open = promise.iter().filter_map(|word| file.imported.get(word).cloned()).collect();
+    let named = promise.iter().filter_map(|word| file.imported.get(word));
+    let open = named.filter_map(|(at, name)| home(&all, at, name)).collect();
     for (file, names) in closure(&all, open) {
         println!("{file}: {}", names.into_iter().collect::<Vec<_>>().join(" "));
     }
