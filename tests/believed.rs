@@ -1,5 +1,6 @@
 //! believed [CRATE::]FUNCTION: the definitions on which a function's promise rests, by file: those that its `ensures` names,
-//! those that these name, and so on. A line each, `CRATE/FILE: NAME ..`. Run in the repository's folder.
+//! those that these name, and so on. A line each, `CRATE/FILE: NAME ..`. believed CRATE/FILE: the same of all definitions of a
+//! file of specs/. Run in the repository's folder.
 use std::collections::{BTreeMap, BTreeSet, HashMap};
 use std::path::{Path, PathBuf};
 use std::{env, fs, process};
@@ -114,19 +115,32 @@ fn closure(all: &HashMap<String, File>, mut open: Vec<Name>) -> BTreeMap<String,
     found
 }
 
+/// The names in the promise of a function, [CRATE::]FUNCTION.
+fn promised(all: &HashMap<String, File>, function: &str) -> Option<Vec<Name>> {
+    let (of, function) = function.split_once("::").unwrap_or(("", function));
+    let sources = files(&Path::new("crates").join(of), ".rt");
+    let (file, promise) = sources.iter().find_map(|path| code(&read(path), function))?;
+    let named = promise.iter().filter_map(|word| file.imported.get(word));
+    Some(named.filter_map(|(at, name)| home(all, at, name)).collect())
+}
+
+/// All names of a file of specs/, CRATE/FILE.
+fn defined_in(all: &HashMap<String, File>, file: &str) -> Option<Vec<Name>> {
+    Some(all.get(file)?.words.keys().map(|name| (file.to_string(), name.clone())).collect())
+}
+
+fn read(path: &PathBuf) -> String {
+    fs::read_to_string(path).unwrap_or_default()
+}
+
 fn main() {
     let asked = env::args().nth(1).unwrap_or_default();
-    let (of, function) = asked.split_once("::").unwrap_or(("", &asked));
-    let read = |path: &PathBuf| fs::read_to_string(path).unwrap_or_default();
     let specs_of = |path: &PathBuf| Some((called(path)?, specs(&read(path))));
     let all: HashMap<String, File> = files(Path::new("crates"), ".antt").iter().filter_map(specs_of).collect();
-    let sources = files(&Path::new("crates").join(of), ".rt");
-    let Some((file, promise)) = sources.iter().find_map(|path| code(&read(path), function)) else {
-        eprintln!("usage: believed [CRATE::]FUNCTION; there is no function '{asked}'");
+    let Some(open) = defined_in(&all, &asked).or_else(|| promised(&all, &asked)) else {
+        eprintln!("usage: believed [CRATE::]FUNCTION | CRATE/FILE; there is no '{asked}'");
         process::exit(2);
     };
-    let named = promise.iter().filter_map(|word| file.imported.get(word));
-    let open = named.filter_map(|(at, name)| home(&all, at, name)).collect();
     for (file, names) in closure(&all, open) {
         println!("{file}: {}", names.into_iter().collect::<Vec<_>>().join(" "));
     }
