@@ -19,7 +19,7 @@ use Rattle.surface.specs.Loading.{Lengths, loading, Outcome, outcome, load}
 use Rattle.surface.specs.Dependence.{asking, ask, Answers}
 use Rattle.loader.specs.Leaving.{leaving}
 use Rattle.loader.proofs.Cleared.{cleared-whole}
-use Rattle.depends.specs.Search.{mention}
+use Rattle.depends.specs.inner.Search.{mention}
 use Rattle.depends.proofs.Mentions.{mentioned}
 
 module _ (s : List ℕ) (z : Lengths) (i j : ℕ) where

@@ -14,7 +14,7 @@ ghost use Rattle.surface.specs.Reader.{nowhere};
 ghost use Rattle.surface.specs.declared.Dependence as Dependence;
 ghost use Rattle.surface.specs.Tables.{tables};
 ghost use Rattle.surface.specs.Dependence.{Asks};
-ghost use Rattle.depends.specs.Search.{global-at, row-behind, first-row, first-global, mention};
+ghost use Rattle.depends.specs.inner.Search.{global-at, row-behind, first-row, first-global, mention};
 
 // Whether row k is a global row j. Behind the table there is none.
 fn is_global(core: &[u32], k: usize, j: usize) -> bool

@@ -1,12 +1,13 @@
 -- What a call of `parse_surface` leaves: the module read, with no name looked at. Assumes nothing.
 use mathlib.Core.Path.{_≡_}
-use mathlib.Core.List.{List, []}
+use mathlib.Core.List.{List, [], _∷_}
 use Prim.Native.Nat.{ℕ}
 use lib.ListN.{length}
 use Rattle.terms.specs.Label.{Declaration}
 use Rattle.terms.specs.Rows.{surface-rows, read-records}
 use Rattle.surface.specs.Reader.{start, Result, done, refused}
 use Rattle.surface.specs.Tables.{Lengths, Tables, tables, lengths, holding, blank, Left, leaves}
+use Rattle.surface.specs.Reports.{Report, accepted, report-refusal}
 use Rattle.surface.specs.Loading.{parsing}
 use Rattle.reader.specs.declared.ModuleRead.{ModuleRead}
 
@@ -29,6 +30,11 @@ Parses s before answer after = leaves answer after ≡ parse s (lengths before)
 -- The same by the words of each table.
 abbrev pub parsing-leaves : ModuleRead → List ℕ → List ℕ → List ℕ → Parsed
 parsing-leaves r surface declarations work = leaves r (tables surface [] declarations work)
+
+-- Document 01's number and values for each case of the answer: the counts of rows and declarations, or the refusal.
+abbrev pub report-read : ModuleRead → Report
+report-read (ModuleRead.Done rows declarations) = accepted (rows ∷ declarations ∷ [])
+report-read (ModuleRead.Refused r) = report-refusal r
 
 -- The counts that an answer gives.
 abbrev pub rows-read : ModuleRead → ℕ

@@ -18,7 +18,8 @@ ghost use Rattle.terms.specs.Label.{Declaration};
 ghost use Rattle.surface.specs.Loading.{loading};
 ghost use Rattle.elaborate.specs.Loadable.{Loadable};
 ghost use Rattle.loader.specs.Parsed.{rows-read, declarations-read, Parses};
-ghost use Rattle.loader.specs.Leaving.{lengths-of, Stores, Resolves, Counts};
+ghost use Rattle.loader.specs.Leaving.{lengths-of};
+ghost use Rattle.loader.specs.inner.Stored.{Stores, Resolves, Counts};
 
 fn refused(class: u8) -> Refusal
     ensures { λ r. ⌜ r ≡ nowhere class ⌝ }

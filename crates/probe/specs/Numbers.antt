@@ -2,22 +2,16 @@
 use mathlib.Core.Path.{_≡_}
 use mathlib.Core.List.{List}
 use Prim.Native.Nat.{ℕ}
-use Rattle.token.specs.declared.TokenKind.{TokenKind}
 use Rattle.token.specs.declared.Place.{Place}
 use Rattle.token.specs.declared.Lexed.{Lexed}
 use Rattle.words.specs.declared.NameTest.{NameTest}
-use Rattle.surface.specs.Tables.{Tables, lengths, Left, leaves}
+pub use Rattle.surface.specs.Reports.{token-number}
+use Rattle.surface.specs.Tables.{Tables, lengths}
 use Rattle.loader.specs.Parsed.{parse, rows-read}
 
 abbrev pub place-number : Place → ℕ
 place-number (Place.At at) = at
 place-number Place.Nowhere = 0
-
-abbrev pub token-number : TokenKind → ℕ
-token-number TokenKind.LParen = 1
-token-number TokenKind.RParen = 2
-token-number TokenKind.Atom = 3
-token-number TokenKind.Eof = 4
 
 abbrev pub kind-number : Lexed → ℕ
 kind-number (Lexed.Got t) = token-number (t .kind)

@@ -12,7 +12,7 @@ use Rattle.loader.specs.Leaving.{lengths-of, leaving}
 use Rattle.loader.proofs.Cleared.{cleared-whole}
 use Rattle.same.specs.declared.Comparison.{Comparison}
 use Rattle.same.specs.Comparison.{Compares, Answers, Tables, tables, blank, left, Asked}
-use Rattle.same.specs.Contents.{Compared}
+use Rattle.same.specs.inner.Contents.{Compared}
 use Rattle.same.proofs.SameModules.{CompareModules, modules-compared}
 use Rattle.same.proofs.Loaded.{load-work, load-refused, Accepted, accepted}
 

@@ -7,6 +7,7 @@ use lib.ListN.{length}
 use Rattle.token.specs.declared.Refusal.{Refusal}
 use Rattle.terms.specs.Label.{Declaration, named-declaration}
 use Rattle.terms.specs.Rows.{pad}
+use Rattle.terms.proofs.Widths.{total-surface}
 use Rattle.surface.specs.declared.Answer.{Answer}
 use Rattle.surface.specs.Grammar.{Derives}
 use Rattle.surface.specs.Reader.{start, Result, done, refused}
@@ -36,7 +37,7 @@ load-room s z = go (loading s z start) refl
         let r = is-read s z ds q (is-loaded s z ds q e .read) in
         let k = outcome-keeps s z (done ds q) in
         record {
-          rows = omega (arith, k .core, r .rows, r .enough .core);
+          rows = omega (arith, k .core, r .rows, r .enough .core, total-surface 0 ds);
           records = omega (arith, k .declarations, r .enough .declarations);
         }
 

@@ -2,13 +2,15 @@
 use mathlib.Core.Path.{_≡_}
 use mathlib.Core.List.{List, [], _∷_, map}
 use Prim.Native.Nat.{ℕ, zero, suc}
+use Rattle.token.specs.declared.Refusal.{Refusal}
 use Rattle.terms.specs.Label.{Declaration, NamedDeclaration, named-declaration}
 use Rattle.terms.specs.Agreement.{AgreeDeclaration}
 use Rattle.surface.specs.declared.Answer.{Answer}
 use Rattle.surface.specs.Grammar.{Derives}
 use Rattle.surface.specs.Agreement.{Agreement}
 pub use Rattle.surface.specs.Tables.{Lengths, Tables, tables, blank}
-use Rattle.surface.specs.Loading.{Outcome, load, offsets, Report}
+use Rattle.surface.specs.Reports.{Report, accepted, offsets}
+use Rattle.surface.specs.Loading.{Outcome, load}
 use Rattle.same.specs.declared.Comparison.{Comparison}
 
 -- Ours: two modules part at place k if the declarations before k agree, the first with the first and so on, in document 01's meaning, and
@@ -58,8 +60,11 @@ pub record Asked (s t : List ℕ) (y z : Lengths) (a : Comparison) (x w : Tables
 
 -- Numbers and values for each case of the answer, as document 01 has them for its own: 0 and nothing for the same core, 0 and the place
 -- where they part; for a refusal its class, which source it is about, 1 or 2, and its offset if it has one.
+abbrev pub report-refused : ℕ → Refusal → Report
+report-refused source r = record { number = r .class; values = source ∷ offsets (r .place) }
+
 abbrev pub report-comparison : Comparison → Report
-report-comparison Comparison.Same = record { number = 0; values = [] }
-report-comparison (Comparison.Different k) = record { number = 0; values = k ∷ [] }
-report-comparison (Comparison.FirstRefused r) = record { number = r .class; values = 1 ∷ offsets (r .place) }
-report-comparison (Comparison.SecondRefused r) = record { number = r .class; values = 2 ∷ offsets (r .place) }
+report-comparison Comparison.Same = accepted []
+report-comparison (Comparison.Different k) = accepted (k ∷ [])
+report-comparison (Comparison.FirstRefused r) = report-refused 1 r
+report-comparison (Comparison.SecondRefused r) = report-refused 2 r

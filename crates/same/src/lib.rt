@@ -12,7 +12,7 @@ ghost use Prim.Native.Nat.{_+_, _*_, _≤_, _<_};
 ghost use lib.ListN.{length};
 ghost use Rattle.tables.specs.Tables.{cleared};
 ghost use Rattle.surface.specs.Tables.{tables, lengths};
-ghost use Rattle.same.specs.Contents.{Decides, words-at, atom-at, SameRow, SameRows, SameRecord, SameDeclaration, FirstDifferent, Compared};
+ghost use Rattle.same.specs.inner.Contents.{Decides, words-at, atom-at, SameRow, SameRows, SameRecord, SameDeclaration, FirstDifferent, Compared};
 ghost use Rattle.same.specs.Comparison.{Asked};
 
 pub enum Comparison {

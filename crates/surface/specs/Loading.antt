@@ -1,14 +1,11 @@
 -- Document 01, "When nothing is loaded": the answer and the four tables, from a source and the tables' lengths. Assumes nothing.
 use mathlib.Core.Path.{_≡_}
-use mathlib.Core.List.{List, [], _∷_}
+use mathlib.Core.List.{List, []}
 use mathlib.Core.Option.{Option, none, some}
 use mathlib.Core.Bool.{not}
 use Prim.Native.Nat.{ℕ, _/_}
 use lib.Dec.{leb, eqb}
 use lib.ListN.{length}
-use Rattle.token.specs.declared.Place.{Place}
-use Rattle.token.specs.declared.Place.the-variants.{At, Nowhere}
-use Rattle.token.specs.declared.Refusal.{Refusal}
 use Rattle.utf8.specs.Utf8.{valid-length, byte-order-mark}
 use Rattle.terms.specs.Label.{Declaration}
 use Rattle.terms.specs.Resolution.{RefusedName, first-refused, resolve-module}
@@ -17,6 +14,7 @@ use Rattle.surface.specs.declared.Answer.{Answer}
 use Rattle.surface.specs.declared.Answer.the-variants.{Loaded, Refused}
 use Rattle.surface.specs.Reader.{start, Result, done, refused, Reader, _>>=_, _>>_, pure, refuse, position, require, nowhere, at-offset}
 use Rattle.surface.specs.Reading.{read-module}
+pub use Rattle.surface.specs.Reports.{Report, offsets, report-refusal, report}
 pub use Rattle.surface.specs.Tables.{Each, Lengths, Tables, tables, lengths, holding, blank, Left, leaves}
 
 -- "7 more than 512 frames open in one term"
@@ -71,20 +69,3 @@ load s z = outcome s z (loading s z start)
 -- The promise of `load`: a call for the source s, with such tables before it, gives this answer and leaves these tables.
 abbrev pub Loads : List ℕ → Tables → Answer → Tables → Type 0
 Loads s before answer after = leaves answer after ≡ load s (lengths before)
-
--- Document 01's number and values for each case of an answer: 0 and the counts of rows and declarations for acceptance;
--- for a refusal its class, and its offset if it has one.
-pub record Report : Type 0 where
-  pub number : ℕ
-  pub values : List ℕ
-
-abbrev pub offsets : Place → List ℕ
-offsets (At p) = p ∷ []
-offsets Nowhere = []
-
-abbrev pub report-refusal : Refusal → Report
-report-refusal r = record { number = r .class; values = offsets (r .place) }
-
-abbrev pub report : Answer → Report
-report (Loaded rows declarations) = record { number = 0; values = rows ∷ declarations ∷ [] }
-report (Refused r) = report-refusal r

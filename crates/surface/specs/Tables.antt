@@ -35,6 +35,10 @@ holding z surface core declarations =
 abbrev pub blank : Lengths → Tables
 blank z = holding z [] [] []
 
+-- Tables with the declaration list in another form, as the words that it stands for.
+abbrev pub in-words : {D : Type 0} → (D → List ℕ) → Each (List ℕ) D → Tables
+in-words words t = tables (t .surface) (t .core) (words (t .declarations)) (t .work)
+
 -- What a call leaves: its answer, with the tables.
 pub record Left (A T : Type 0) : Type 0 where
   pub answer : A

@@ -2,9 +2,9 @@
 // The port of `Lexer` in surface/parser.rs. Document 01, "The token".
 ghost use mathlib.Core.Path.{_≡_};
 ghost use mathlib.Core.Bool.{false};
-ghost use Prim.Native.Nat.{_+_, _≤_};
+ghost use Prim.Native.Nat.{_+_, _≤_, _<_};
 ghost use lib.ListN.{length, take, drop};
-ghost use Rattle.token.specs.Token.{atom-byte, byte-class, layout-end, atom-from, next-token};
+ghost use Rattle.token.specs.Token.{atom-byte, byte-class, layout-end, atom-from, token-here, next-token};
 ghost use Rattle.token.specs.Comments.{unbroken, comment-end, SameComment};
 
 // What a byte is for.
@@ -192,6 +192,37 @@ pub fn lex_atom(s: &[u8], start: usize, at: usize) -> Lexed
     })
 }
 
+// The token that starts at `start`, where no layout is. Small letters and parentheses, the most frequent, are told first.
+fn token_at(s: &[u8], start: usize) -> Lexed
+    requires { ⌜ start < length (now s) ⌝ }
+    ensures { λ r. ⌜ r ≡ token-here start (drop start (now (s .entry))) ⌝ }
+{
+    let b = s[start];
+    if b < 97 {
+        if b == 40 {
+            return Lexed::Got(Token {
+                kind: TokenKind::LParen,
+                start: start,
+                end: start + 1,
+            });
+        }
+        if b == 41 {
+            return Lexed::Got(Token {
+                kind: TokenKind::RParen,
+                start: start,
+                end: start + 1,
+            });
+        }
+    }
+    if is_atom_byte(b) {
+        return lex_atom(s, start, start + 1);
+    }
+    Lexed::Refused(Refusal {
+        class: 1,
+        place: Place::At(start),
+    })
+}
+
 // The first token at or behind `at`.
 pub fn next_token(s: &[u8], at: usize) -> Lexed
     ensures { λ r. ⌜ r ≡ next-token (now (s .entry)) at ⌝ }
@@ -204,25 +235,5 @@ pub fn next_token(s: &[u8], at: usize) -> Lexed
             end: start,
         });
     }
-    let b = s[start];
-    if is_atom_byte(b) {
-        return lex_atom(s, start, start + 1);
-    }
-    let class = byte_class(b);
-    match class {
-        ByteClass::LParen => Lexed::Got(Token {
-            kind: TokenKind::LParen,
-            start: start,
-            end: start + 1,
-        }),
-        ByteClass::RParen => Lexed::Got(Token {
-            kind: TokenKind::RParen,
-            start: start,
-            end: start + 1,
-        }),
-        _ => Lexed::Refused(Refusal {
-            class: 1,
-            place: Place::At(start),
-        }),
-    }
+    token_at(s, start)
 }
