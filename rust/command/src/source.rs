@@ -69,6 +69,36 @@ pub fn reason(error: &io::Error) -> String {
 mod tests {
     use super::*;
 
+    /// Bytes one at a time, each behind an interrupted call, and then perhaps a fault.
+    struct Slow(Vec<u8>, bool, bool);
+
+    impl Read for Slow {
+        fn read(&mut self, buffer: &mut [u8]) -> io::Result<usize> {
+            self.1 = !self.1;
+            match (self.1, self.0.is_empty()) {
+                (true, _) => Err(io::ErrorKind::Interrupted.into()),
+                (false, true) if self.2 => Err(io::ErrorKind::BrokenPipe.into()),
+                (false, true) => Ok(0),
+                (false, false) => {
+                    buffer[0] = self.0.remove(0);
+                    Ok(1)
+                }
+            }
+        }
+    }
+
+    #[test]
+    fn interrupted_calls_are_made_again_and_a_fault_is_no_end() {
+        assert_eq!(beginning(Slow(b"(surface".to_vec(), false, false)).unwrap(), b"(surface");
+        let fault = beginning(Slow(b"(surface".to_vec(), false, true)).unwrap_err();
+        assert_eq!(fault.kind(), io::ErrorKind::BrokenPipe);
+    }
+
+    #[test]
+    fn no_more_than_a_byte_over_the_longest_source() {
+        assert_eq!(beginning(io::repeat(b' ')).unwrap().len(), LONGEST_SOURCE + 1);
+    }
+
     #[test]
     fn lines_and_columns_from_1() {
         let source = Source { name: String::new(), bytes: b"ab\n\nc\xc3\xa9d".to_vec() };
