@@ -1,9 +1,8 @@
 -- `reader::next_declaration` meets its contract. Assumes nothing.
 use mathlib.Core.List.{[], _∷_}
-use Prim.Native.Nat.{_-_, _/_}
+use Prim.Native.Nat.{_-_}
 use native.Mathlib.Omega.{arith}
 use types.Run.{miss}
-use lib.ListN.{length}
 use Rattle.reader.proofs.Steps.{next-refused, next-full, next-other, ends-here, declaration-stops, went}
 use borrow.Author.Needs.{needs}
 use Rattle.reader.proofs.next_declaration.Statement.{statement}
@@ -30,11 +29,11 @@ full-requires c κs = search needs
 returns : tie.Need-returns
 returns c =
     let f = c .before in
-    let x = f .before .before .before .before in
+    let x = f .before .before .before .before .before in
     let i = x .before .before in
     let a = i .before .before .before .before .before .args in (
-      λ w few. next-full (a .s .now) (length (a .table .now) / 8) (a .at) (a .rows) (length (a .list .now) / 5 - a .k) (i .next-token .result) (i .next-token .ensures)
-          (x .l2 .given .0 .0) (x .l2 .given .1) (f .before .enum-told2 .given .1) (omega arith) _ (c .full .ensures),
+      λ w few. next-full (a .format) (a .s .now) (a .limits .rows) (a .at) (a .rows) (a .limits .declarations - a .k) (i .next-token .result) (i .next-token .ensures)
+          (x .l2 .given .0 .0) (x .l2 .given .1) (f .before .before .enum-told2 .given .1) (omega arith) _ (c .full .ensures),
       tt,
     )
 
@@ -55,14 +54,14 @@ returns-2 c =
     let x = c .before in
     let i = x .before .before in
     let a = i .before .before .before .before .before .args in
-    (λ w few. next-refused (a .s .now) (length (a .table .now) / 8) (a .at) (a .rows) (length (a .list .now) / 5 - a .k) (i .next-token .result) (i .next-token .ensures) _ (x .l .given .1), tt)
+    (λ w few. next-refused (a .format) (a .s .now) (a .limits .rows) (a .at) (a .rows) (a .limits .declarations - a .k) (i .next-token .result) (i .next-token .ensures) _ (x .l .given .1), tt)
 
 returns-3 : tie.Need-returns-3
 returns-3 c =
     let x = c .before .before .before in
     let i = x .before .before in
     let a = i .before .before .before .before .before .args in (
-      λ w few. ends-here (a .s .now) (a .table .now) (a .list .now) (a .at) (a .rows) (a .k) (i .next-token .result) (i .next-token .ensures)
+      λ w few. ends-here (a .format) (a .limits) (a .s .now) (a .table .now) (a .list .now) (a .at) (a .rows) (a .k) (i .next-token .result) (i .next-token .ensures)
           (x .l2 .given .0 .0) (x .l2 .given .1) (c .enum-told .given .1),
       tt,
     )
@@ -81,11 +80,11 @@ returns-4 c =
     let y = c .before in
     let d = y .before .before .before .before .before .before .before .before in
     let f = d .before .before .before .before in
-    let x = f .before .before .before .before in
+    let x = f .before .before .before .before .before in
     let i = x .before .before in
     let a = i .before .before .before .before .before .args in (
-      λ w few. declaration-stops (a .s .now) (a .table .now) (a .list .now) (a .at) (a .rows) (a .k) (a .work .now) (d .read-declaration .last .1 .1 .1 .0) w (omega arith)
-          (i .next-token .result) (i .next-token .ensures) (x .l2 .given .0 .0) (x .l2 .given .1) (f .before .enum-told2 .given .1)
+      λ w few. declaration-stops (a .format) (a .limits) (a .s .now) (a .table .now) (a .list .now) (a .at) (a .rows) (a .k) (a .work .now) (d .read-declaration .last .1 .1 .1 .0) w (omega arith)
+          (i .next-token .result) (i .next-token .ensures) (x .l2 .given .0 .0) (x .l2 .given .1) (f .before .before .enum-told2 .given .1)
           (d .read-declaration .result) (d .read-declaration .last .1 .0) (d .read-declaration .last .1 .1 .0)
           (d .read-declaration .kept .1 .0) (d .read-declaration .kept .1 .1 .0) (d .read-declaration .kept .1 .1 .1 .0)
           (d .read-declaration .ensures) _ (y .d .given .1),
@@ -106,11 +105,11 @@ returns-5 c =
     let y = c .before in
     let d = y .before .before .before .before .before .before .before .before in
     let f = d .before .before .before .before in
-    let x = f .before .before .before .before in
+    let x = f .before .before .before .before .before in
     let i = x .before .before in
     let a = i .before .before .before .before .before .args in (
-      λ w few. went (a .s .now) (a .table .now) (a .list .now) (a .at) (a .rows) (a .k) (a .work .now) (d .read-declaration .last .1 .1 .1 .0) w (omega arith)
-          (i .next-token .result) (i .next-token .ensures) (x .l2 .given .0 .0) (x .l2 .given .1) (f .before .enum-told2 .given .1)
+      λ w few. went (a .format) (a .limits) (a .s .now) (a .table .now) (a .list .now) (a .at) (a .rows) (a .k) (a .work .now) (d .read-declaration .last .1 .1 .1 .0) w (omega arith)
+          (i .next-token .result) (i .next-token .ensures) (x .l2 .given .0 .0) (x .l2 .given .1) (f .before .before .enum-told2 .given .1)
           (d .read-declaration .result) (d .read-declaration .last .1 .0) (d .read-declaration .last .1 .1 .0)
           (d .read-declaration .kept .1 .0) (d .read-declaration .kept .1 .1 .0) (d .read-declaration .kept .1 .1 .1 .0)
           (d .read-declaration .ensures) _ _ (y .d2 .given .1),
@@ -122,7 +121,7 @@ returns-6 c =
     let x = c .before .before .before in
     let i = x .before .before in
     let a = i .before .before .before .before .before .args in (
-      λ w few. next-other (a .s .now) (length (a .table .now) / 8) (a .at) (a .rows) (length (a .list .now) / 5 - a .k) (i .next-token .result) (i .next-token .ensures)
+      λ w few. next-other (a .format) (a .s .now) (a .limits .rows) (a .at) (a .rows) (a .limits .declarations - a .k) (i .next-token .result) (i .next-token .ensures)
           (x .l2 .given .0 .0) (x .l2 .given .1)
           (λ q. miss (1 ∷ 2 ∷ []) 0 tt (rw q at (c .before .match2 .keys3)))
           (λ q. miss (1 ∷ 2 ∷ []) 3 tt (rw q at (c .before .match2 .keys3))) _ (c .malformed .ensures),
