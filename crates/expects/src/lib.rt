@@ -5,7 +5,7 @@ ghost use Prim.Native.Nat.{ℕ, _≤_, _<_};
 ghost use lib.ListN.{length};
 ghost use Rattle.token.specs.Token.{next-token};
 ghost use Rattle.terms.specs.Forms.{forms, form-of-word};
-ghost use Rattle.surface.specs.Reader.{at-offset};
+ghost use Rattle.surface.specs.Reader.{nowhere, at-offset};
 ghost use Rattle.surface.specs.Reading.{opening, closing, atom, word, natural, name, declaration-kind};
 ghost use Rattle.expects.specs.Expects.{Reads, Begins, Heads};
 ghost use Rattle.expects.specs.Formats.{edition, tested-name};
@@ -46,12 +46,23 @@ pub struct FormOfWord {
     pub arity: u32,
 }
 
-fn refused_at(class: u8, at: usize) -> Refusal
+// A refusal of a class, at an offset.
+pub fn refused_at(class: u8, at: usize) -> Refusal
     ensures { λ r. ⌜ r ≡ at-offset class at ⌝ }
 {
     Refusal {
         class: class,
         place: Place::At(at),
+    }
+}
+
+// The same, at no place.
+pub fn refused_nowhere(class: u8) -> Refusal
+    ensures { λ r. ⌜ r ≡ nowhere class ⌝ }
+{
+    Refusal {
+        class: class,
+        place: Place::Nowhere,
     }
 }
 
@@ -231,9 +242,7 @@ pub fn declaration_kind(w: &[u8]) -> u32
     k - 2
 }
 
-// The shapes and arities of the words from `universe` on: octal digits, the last one for `universe`. An array would be copied where it is read.
-const SHAPES: u64 = 0o555_115_115_155_555_545_443;
-
+// The arities of the words from `universe` on: octal digits, the last one for `universe`. An array would be copied where it is read.
 const ARITIES: u64 = 0o241_003_002_061_311_222_120;
 
 // The kind of the form of word k: `ref` is word 6, and the words behind it stand in the order of their kinds.
@@ -250,18 +259,36 @@ fn kind_at(k: u32) -> u32
     k - 4
 }
 
+// One arm for each word becomes a table that is read in place.
 fn shape_at(k: u32) -> u8
     requires { ⌜ k < 28 ⌝ }
     ensures { λ r. ⌜ r ≡ form-at k .shape ⌝ }
 {
-    if k < 6 {
-        return 0;
+    match k {
+        6 => 2, // ref
+        7 => 3, // universe
+        8 => 4, // pi
+        9 => 4, // lam
+        10 => 5, // app
+        11 => 4, // sigma
+        12 => 5, // pair
+        13 => 5, // fst
+        14 => 5, // snd
+        15 => 5, // id
+        16 => 5, // refl
+        17 => 5, // j
+        18 => 1, // empty
+        19 => 5, // empty-elim
+        20 => 1, // unit
+        21 => 1, // star
+        22 => 5, // unit-elim
+        23 => 1, // nat
+        24 => 1, // zero
+        25 => 5, // succ
+        26 => 5, // nat-elim
+        27 => 5, // ann
+        _ => 0,
     }
-    if k == 6 {
-        return 2;
-    }
-    let digit = k as u64 - 7;
-    ((SHAPES >> (3 * digit)) % 8) as u8
 }
 
 fn arity_at(k: u32) -> u32
@@ -295,8 +322,8 @@ pub fn form_of_word(w: &[u8], format: Format) -> FormOfWord
     }
 }
 
-// An offset or a length as a word of a row: itself, in a source of at most 4294967295 bytes.
-fn narrow(n: usize) -> u32
+// An offset or a length as a word of a row or a record: itself, in a source of at most 4294967295 bytes.
+pub fn narrow(n: usize) -> u32
     ensures { λ r. ⌜ (n < 4294967296 → r ≡ n) ⌝ }
 {
     (n % 4294967296) as u32

@@ -3,12 +3,10 @@
 use expects::Begun;
 use expects::Format;
 use token::Lexed;
-use token::Place;
 use token::Refusal;
 ghost use mathlib.Core.Path.{_≡_};
 ghost use mathlib.Core.Bool.{true, false};
 ghost use Prim.Native.Nat.{_<_, _≤_};
-ghost use Rattle.surface.specs.Reader.{nowhere};
 ghost use Rattle.expects.specs.Formats.{edition};
 ghost use Rattle.parser.specs.Machine.{surface, pushed-term, pushed-row, ended, Inside, Stepped, ready, ReadsTerm};
 
@@ -42,15 +40,6 @@ pub enum TermRead {
     Refused(Refusal),
 }
 
-fn refusal(class: u8) -> Refusal
-    ensures { λ r. ⌜ r ≡ nowhere class ⌝ }
-{
-    Refusal {
-        class: class,
-        place: Place::Nowhere,
-    }
-}
-
 // A completed term becomes the next row, where there is room for one more.
 fn push_term(
     table: &mut [u32],
@@ -74,7 +63,7 @@ fn push_term(
             have: true,
         });
     }
-    Step::Refused(refusal(8))
+    Step::Refused(expects::refused_nowhere(8))
 }
 
 // A term is to be read: all of it, or a new frame.
@@ -112,7 +101,7 @@ fn term_step(
                     have: false,
                 });
             }
-            Step::Refused(refusal(7))
+            Step::Refused(expects::refused_nowhere(7))
         }
     }
 }
@@ -221,7 +210,7 @@ pub fn read_term(
     ensures { λ r. ⌜ ReadsTerm (edition format) limit (now (s .entry)) (now (table .entry)) (now (work .entry)) at rows r (now (table .exit)) ⌝ }
 {
     if !is_ready(s.len(), work.len(), at, rows) {
-        return TermRead::Refused(refusal(11));
+        return TermRead::Refused(expects::refused_nowhere(11));
     }
     let mut st = State {
         at: at,

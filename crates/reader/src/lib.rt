@@ -4,7 +4,7 @@ ghost use mathlib.Core.Path.{_≡_};
 ghost use mathlib.Core.List.{[], _∷_};
 ghost use Prim.Native.Nat.{_-_, _/_, _≤_, _<_};
 ghost use lib.ListN.{length};
-ghost use Rattle.surface.specs.Reader.{start, nowhere, at-offset};
+ghost use Rattle.surface.specs.Reader.{start};
 ghost use Rattle.surface.specs.Reading.{closing, read-module};
 ghost use Rattle.expects.specs.Expects.{position-at};
 ghost use Rattle.reader.specs.Parts.{ReadsBody, Finishes, ReadsNamed, ReadsDeclaration, Steps, HasRoom, ReadsDeclarations};
@@ -13,7 +13,6 @@ use expects::Format;
 use expects::HeadRead;
 use parser::TermRead;
 use token::Lexed;
-use token::Place;
 use token::Refusal;
 use token::Token;
 use token::TokenKind;
@@ -43,39 +42,13 @@ pub enum ModuleRead {
     Refused(Refusal),
 }
 
-fn malformed(at: usize) -> Refusal
-    ensures { λ r. ⌜ r ≡ at-offset 1 at ⌝ }
-{
-    Refusal {
-        class: 1,
-        place: Place::At(at),
-    }
-}
-
-// "9 declaration list full", nowhere
-fn full() -> Refusal
-    ensures { λ r. ⌜ r ≡ nowhere 9 ⌝ }
-{
-    Refusal {
-        class: 9,
-        place: Place::Nowhere,
-    }
-}
-
-// An offset or a length as a word of a record: itself, in a source of at most 4294967295 bytes.
-fn narrow(n: usize) -> u32
-    ensures { λ r. ⌜ (n < 4294967296 → r ≡ n) ⌝ }
-{
-    (n % 4294967296) as u32
-}
-
 // "kind, name start, name length, type row, body row"
 fn declaration_record(kind: u32, name: Token, type_row: u32, body_row: u32) -> [u32; 5]
     requires { ⌜ name .start ≤ name .end ⌝ }
     ensures { λ r. ⌜ (name .end < 4294967296 → r ≡ kind ∷ name .start ∷ (name .end - name .start) ∷ «type_row» ∷ «body_row» ∷ []) ⌝ }
 {
-    let start = narrow(name.start);
-    let length = narrow(name.end - name.start);
+    let start = expects::narrow(name.start);
+    let length = expects::narrow(name.end - name.start);
     [kind, start, length, type_row, body_row]
 }
 
@@ -185,7 +158,7 @@ pub fn read_declaration(
             let e = tag.end;
             let kind = expects::declaration_kind(&s[a..e]);
             if kind == 0 {
-                return DeclarationRead::Refused(malformed(a));
+                return DeclarationRead::Refused(expects::refused_at(1, a));
             }
             read_named(s, table, list, work, kind, e, rows, k, limits, format)
         }
@@ -216,7 +189,8 @@ fn next_declaration(
                 TokenKind::Eof => Step::End,
                 TokenKind::LParen => {
                     if limits.declarations <= k {
-                        return Step::Refused(full());
+                        // "9 declaration list full", nowhere
+                        return Step::Refused(expects::refused_nowhere(9));
                     }
                     let d = read_declaration(s, table, list, work, t.end, rows, k, limits, format);
                     match d {
@@ -227,7 +201,7 @@ fn next_declaration(
                         },
                     }
                 }
-                _ => Step::Refused(malformed(t.start)),
+                _ => Step::Refused(expects::refused_at(1, t.start)),
             }
         }
     }

@@ -24,15 +24,15 @@ returns c =
     let y = pushed-yes _ _ _ _ _ _ (c .before .before .before .before .if1 .taken) in
     (y .0, k .ensures .1 ∙ y .1)
 
-refusal-requires : tie.Need-refusal-requires
-refusal-requires c κs = search needs
+refused-nowhere-requires : tie.Need-refused-nowhere-requires
+refused-nowhere-requires c κs = search needs
 
 returns-2 : tie.Need-returns-2
 returns-2 c =
     let y = pushed-no _ _ _ _ _ _ (c .before .if1 .left) in
-    (ap Step.Refused (c .refusal .ensures) ∙ y .0, y .1)
+    (ap Step.Refused (c .refused-nowhere .ensures) ∙ y .0, y .1)
 
 pub push-term-spec : {M : Type 1} → statement M
 push-term-spec =
     tie.close
-    (tie.spec store-row-requires add-t11 cast-t12 same-length returns refusal-requires returns-2)
+    (tie.spec store-row-requires add-t11 cast-t12 same-length returns refused-nowhere-requires returns-2)

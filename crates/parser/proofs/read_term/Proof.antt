@@ -19,8 +19,8 @@ abbrev μ-loop : tie.MeasureT-loop
 is-ready-requires : tie.Need-is-ready-requires Inv-loop μ-loop
 is-ready-requires c κs = search needs
 
-refusal-requires : tie.Need-refusal-requires Inv-loop μ-loop
-refusal-requires c κs = search needs
+refused-nowhere-requires : tie.Need-refused-nowhere-requires Inv-loop μ-loop
+refused-nowhere-requires c κs = search needs
 
 returns : tie.Need-returns Inv-loop μ-loop
 returns c =
@@ -96,7 +96,7 @@ read-term-spec =
     Inv-loop
     μ-loop
     is-ready-requires
-    refusal-requires
+    refused-nowhere-requires
     returns
     loop-holds
     is-ended-requires

@@ -42,8 +42,8 @@ returns c =
     open-step (o .args .s .now) _ (surface-sound (o .args .format) (o .args .s .now) (o .args .limit)) (o .args .table .now) (o .args .work .now) (o .args .st) (o .pre .0) _ (o .pre .1) (c .before .before .before .before .before .before .before .before .begin-term .ensures (o .pre .0 .source)) _ _ _ _
     (c .before .before .before .before .before .before .begun3 .given .1) (c .before .before .before .before .if1 .taken) (k .ensures) (k .kept .0)
 
-refusal-requires : tie.Need-refusal-requires
-refusal-requires c κs = search needs
+refused-nowhere-requires : tie.Need-refused-nowhere-requires
+refused-nowhere-requires c κs = search needs
 
 returns-2 : tie.Need-returns-2
 returns-2 c =
@@ -64,7 +64,7 @@ returns-4 : tie.Need-returns-4
 returns-4 c =
     let o = c .before .before .before .before .before .before .before .before .before in
     deep-step (o .args .s .now) _ (surface-sound (o .args .format) (o .args .s .now) (o .args .limit)) (o .args .table .now) (o .args .work .now) (o .args .st) (o .pre .0) _ (o .pre .1) (c .before .before .before .before .before .begin-term .ensures (o .pre .0 .source)) _ _ _
-    (c .before .before .before .begun3 .given .1) (c .before .if1 .left) ∙ ap refused (sym (c .refusal .ensures))
+    (c .before .before .before .begun3 .given .1) (c .before .if1 .left) ∙ ap refused (sym (c .refused-nowhere .ensures))
 
 pub term-step-spec : {M : Type 1} → statement M
 term-step-spec =
@@ -80,7 +80,7 @@ term-step-spec =
     add-t25
     same-length
     returns
-    refusal-requires
+    refused-nowhere-requires
     returns-2
     same-length-2
     returns-3

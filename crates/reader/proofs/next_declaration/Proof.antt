@@ -23,8 +23,8 @@ enum-told c = search needs
 enum-told-2 : tie.Need-enum-told-2
 enum-told-2 c = search needs
 
-full-requires : tie.Need-full-requires
-full-requires c κs = search needs
+refused-nowhere-requires : tie.Need-refused-nowhere-requires
+refused-nowhere-requires c κs = search needs
 
 returns : tie.Need-returns
 returns c =
@@ -33,7 +33,7 @@ returns c =
     let i = x .before .before in
     let a = i .before .before .before .before .before .args in (
       λ w few. next-full (a .format) (a .s .now) (a .limits .rows) (a .at) (a .rows) (a .limits .declarations - a .k) (i .next-token .result) (i .next-token .ensures)
-          (x .l2 .given .0 .0) (x .l2 .given .1) (f .before .before .enum-told2 .given .1) (omega arith) _ (c .full .ensures),
+          (x .l2 .given .0 .0) (x .l2 .given .1) (f .before .before .enum-told2 .given .1) (omega arith) _ (c .refused-nowhere .ensures),
       tt,
     )
 
@@ -46,8 +46,8 @@ enum-known-d c = search needs
 enum-known-d-2 : tie.Need-enum-known-d-2
 enum-known-d-2 c = search needs
 
-malformed-requires : tie.Need-malformed-requires
-malformed-requires c κs = search needs
+refused-at-requires : tie.Need-refused-at-requires
+refused-at-requires c κs = search needs
 
 returns-2 : tie.Need-returns-2
 returns-2 c =
@@ -124,7 +124,7 @@ returns-6 c =
       λ w few. next-other (a .format) (a .s .now) (a .limits .rows) (a .at) (a .rows) (a .limits .declarations - a .k) (i .next-token .result) (i .next-token .ensures)
           (x .l2 .given .0 .0) (x .l2 .given .1)
           (λ q. miss (1 ∷ 2 ∷ []) 0 tt (rw q at (c .before .match2 .keys3)))
-          (λ q. miss (1 ∷ 2 ∷ []) 3 tt (rw q at (c .before .match2 .keys3))) _ (c .malformed .ensures),
+          (λ q. miss (1 ∷ 2 ∷ []) 3 tt (rw q at (c .before .match2 .keys3))) _ (c .refused-at .ensures),
       tt,
     )
 
@@ -137,12 +137,12 @@ next-declaration-spec =
     enum-known-l-2
     enum-told
     enum-told-2
-    full-requires
+    refused-nowhere-requires
     returns
     read-declaration-requires
     enum-known-d
     enum-known-d-2
-    malformed-requires
+    refused-at-requires
     returns-2
     returns-3
     same-length

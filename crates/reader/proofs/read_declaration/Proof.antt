@@ -37,8 +37,8 @@ part-declaration-kind-end c =
 declaration-kind-requires : tie.Need-declaration-kind-requires
 declaration-kind-requires c κs = search needs
 
-malformed-requires : tie.Need-malformed-requires
-malformed-requires c κs = search needs
+refused-at-requires : tie.Need-refused-at-requires
+refused-at-requires c κs = search needs
 
 returns : tie.Need-returns
 returns c =
@@ -49,7 +49,7 @@ returns c =
     λ w room.
     stops _ _ _ _ _ _ _ _ _
     (other-word (a .format) (a .s .now) _ (a .at) (a .rows) (i .next-atom .result) (i .next-atom .ensures) (x .l2 .given .0 .0) (x .l2 .given .1)
-    (d .declaration-kind .result) (d .declaration-kind .ensures) (c .before .if1 .taken) _ (c .malformed .ensures))
+    (d .declaration-kind .result) (d .declaration-kind .ensures) (c .before .if1 .taken) _ (c .refused-at .ensures))
 
 read-named-requires : tie.Need-read-named-requires
 read-named-requires c κs = search needs
@@ -98,7 +98,7 @@ read-declaration-spec =
     part-declaration-kind-start
     part-declaration-kind-end
     declaration-kind-requires
-    malformed-requires
+    refused-at-requires
     returns
     read-named-requires
     returns-2
