@@ -5,38 +5,47 @@
 
        cc -Iinclude program.c target/staticlib/libstation.a
 
-   examples/load.c is a whole program. In short:
+   or, where it is installed, `cc program.c $(pkg-config --cflags --libs sulyterom)`. examples/load.c is a whole program.
+   In short:
 
-       static uint32_t surface[1024 * SULYTEROM_ROW_WORDS], core[1024 * SULYTEROM_ROW_WORDS];
-       static uint32_t declarations[256 * SULYTEROM_RECORD_WORDS], work[SULYTEROM_WORK_WORDS];
-       uint64_t answer[SULYTEROM_ANSWER_WORDS];
-       uint8_t class_number = sulyterom_load(source, source_length, surface, 1024 * SULYTEROM_ROW_WORDS,
-                                             core, 1024 * SULYTEROM_ROW_WORDS,
-                                             declarations, 256 * SULYTEROM_RECORD_WORDS,
-                                             work, SULYTEROM_WORK_WORDS, answer, SULYTEROM_ANSWER_WORDS);
-       if (class_number == SULYTEROM_ACCEPTED) {
-           // answer[1] rows in each of surface and core, answer[2] declarations
-       } else if (answer[0] == 1) {
-           // refused at the byte answer[1] of the source
+       static sulyterom_row surface[1024], core[1024];
+       static sulyterom_declaration declarations[256];
+       static uint32_t work[SULYTEROM_WORK_WORDS];
+       sulyterom_tables tables = {surface, 1024, core, 1024, declarations, 256, work, SULYTEROM_WORK_WORDS};
+       sulyterom_loaded loaded = sulyterom_load_into(source, source_length, &tables);
+       if (loaded.refused == SULYTEROM_ACCEPTED) {
+           // loaded.rows rows in each of surface and core, loaded.declarations declarations
+       } else if (loaded.has_offset) {
+           // refused at the byte loaded.offset of the source; sulyterom_class_text(loaded.refused) says why
        } else {
            // refused, at no place
        }
 
+   The functions sulyterom_load, sulyterom_depends and sulyterom_same are the library's own, and take each table as words.
+   Behind them stand inline functions over structs, which do nothing but call these: rows and records are the same memory.
+
    What is passed. Every table, and the source, is passed as a pointer to its first element and then its length in
-   elements (words of 32 bits, or bytes of the source, or numbers of 64 bits), never in bytes of memory. A pointer
-   is not NULL and is aligned for its type, even where the length is 0. The tables do not overlap each other, the
-   source or the answer, and no other thread touches them, nor writes the source, during the call. Nothing else is
-   asked: a source may be any bytes, a table may have any length and any former content.
+   elements (words of 32 bits, or bytes of the source, or numbers of 64 bits), never in bytes of memory; in the structs
+   with its count of rows, records or words. A pointer is not NULL and is aligned for its type, even where the length
+   is 0. The tables do not overlap each other, the source or the answer, and no other thread touches them, nor writes
+   the source, during the call. Nothing else is asked: a source may be any bytes, a table may have any length and any
+   former content.
 
    What is promised. A function returns, and the answer and every word of every table are what a definition says
    (crates/station/src/lib.rt has the promises, each proved). It allocates nothing, writes nothing but the tables
    lent to it, and keeps nothing between calls: tables can be lent again and again, and threads can load at the same
-   time into tables of their own. */
+   time into tables of their own. A call takes less than SULYTEROM_STACK_BYTES of stack, whatever the source. */
 #ifndef SULYTEROM_H
 #define SULYTEROM_H
 
 #include <stddef.h>
 #include <stdint.h>
+
+/* The version of this header and of the library beside it. */
+#define SULYTEROM_VERSION_MAJOR 0
+#define SULYTEROM_VERSION_MINOR 1
+#define SULYTEROM_VERSION_PATCH 0
+#define SULYTEROM_VERSION_TEXT "0.1.0"
 
 #ifdef __cplusplus
 extern "C" {
@@ -58,6 +67,7 @@ extern "C" {
 #define SULYTEROM_ANSWER_WORDS 3
 #define SULYTEROM_LONGEST_SOURCE 65535 /* bytes */
 #define SULYTEROM_MOST_FRAMES 512      /* forms open at the same time in one type or body */
+#define SULYTEROM_STACK_BYTES 32768    /* that a call stays below */
 #define SULYTEROM_ROWS_FOR(bytes) ((bytes) / 3)
 #define SULYTEROM_DECLARATIONS_FOR(bytes) ((bytes) / 17)
 
@@ -65,7 +75,7 @@ extern "C" {
    offset in the source, from 0. The others have no place. Where several apply, the order is: 11, 6, not UTF-8 (1),
    a leading EF BB BF (1), then 1, 2, 3, 7, 8 and 9 as the source is read, 10, then for each declaration in turn 4
    and 5, and last 12. */
-enum {
+typedef enum sulyterom_class {
     SULYTEROM_ACCEPTED = 0,
     /* From the source. */
     SULYTEROM_MALFORMED = 1,      /* at the byte, or the first byte of the token, that does not fit */
@@ -82,7 +92,7 @@ enum {
     SULYTEROM_WORK_SHORT = 11,       /* under SULYTEROM_WORK_WORDS words of work area */
     /* From the question. */
     SULYTEROM_NO_DECLARATION = 12 /* dependence asked of a place that is no declaration */
-};
+} sulyterom_class;
 
 /* The kind of a row, its first word. Row k of a table begins at word k * SULYTEROM_ROW_WORDS. Rows are numbered
    from 0 in the order in which terms end, so a row's children have lower numbers than itself. Core row k stands for
@@ -114,7 +124,7 @@ enum {
    Start and length are bytes of the source. Every other field but count and place is the number of a row. Count
    says how many binders stand between a reference and the one that binds it: 0 is the innermost. Place is a
    declaration's. */
-enum {
+typedef enum sulyterom_kind {
     SULYTEROM_VAR = 1,    /* core only */
     SULYTEROM_GLOBAL = 2, /* core only */
     SULYTEROM_UNIVERSE = 3,
@@ -139,10 +149,14 @@ enum {
     SULYTEROM_NAT_ELIM = 22,
     SULYTEROM_ANN = 23,
     SULYTEROM_REF = 24 /* surface only */
-};
+} sulyterom_kind;
 
 /* The kind of a declaration, the first word of its record. */
-enum { SULYTEROM_POSTULATE = 1, SULYTEROM_TRANSPARENT = 2, SULYTEROM_OPAQUE = 3 };
+typedef enum sulyterom_declaration_kind {
+    SULYTEROM_POSTULATE = 1,
+    SULYTEROM_TRANSPARENT = 2,
+    SULYTEROM_OPAQUE = 3
+} sulyterom_declaration_kind;
 
 /* The words of a record. The declaration at place d, from 0, begins at word d * SULYTEROM_RECORD_WORDS. */
 #define SULYTEROM_RECORD_KIND 0
@@ -197,6 +211,154 @@ uint8_t sulyterom_same(const uint8_t *first, size_t first_length, const uint8_t 
                        size_t surface2_length, uint32_t *core2, size_t core2_length, uint32_t *declarations2,
                        size_t declarations2_length, uint32_t *work, size_t work_length, uint64_t *answer,
                        size_t answer_length);
+
+/* Rows, records and tables as structs.
+
+   A row and a record are the words described above, so that a table of these is the table of words that the functions
+   take; there are no words left over. A list of n records is refused with 9 for a source with more declarations. */
+typedef struct sulyterom_row {
+    uint32_t kind; /* sulyterom_kind */
+    uint32_t fields[SULYTEROM_ROW_WORDS - 1];
+} sulyterom_row;
+
+typedef struct sulyterom_declaration {
+    uint32_t kind;        /* sulyterom_declaration_kind */
+    uint32_t name_start;  /* bytes of the source */
+    uint32_t name_length; /* bytes of the source */
+    uint32_t type_row;
+    uint32_t body_row; /* 0 for a postulate */
+} sulyterom_declaration;
+
+/* They have no other bytes; a size that is negative does not compile. */
+typedef char sulyterom_row_is_its_words[sizeof(sulyterom_row) == SULYTEROM_ROW_WORDS * sizeof(uint32_t) ? 1 : -1];
+typedef char
+    sulyterom_record_is_its_words[sizeof(sulyterom_declaration) == SULYTEROM_RECORD_WORDS * sizeof(uint32_t) ? 1 : -1];
+
+/* What a call is lent. */
+typedef struct sulyterom_tables {
+    sulyterom_row *surface;
+    size_t surface_rows;
+    sulyterom_row *core;
+    size_t core_rows;
+    sulyterom_declaration *declarations;
+    size_t declaration_records;
+    uint32_t *work;
+    size_t work_words;
+} sulyterom_tables;
+
+/* What sulyterom_load_into answers. The last two are 0 after a refusal; has_offset and offset are 0 where there is no
+   place. */
+typedef struct sulyterom_loaded {
+    sulyterom_class refused; /* SULYTEROM_ACCEPTED: it is not */
+    int has_offset;
+    size_t offset;
+    size_t rows;
+    size_t declarations;
+} sulyterom_loaded;
+
+/* What sulyterom_depends_in answers. */
+typedef struct sulyterom_dependence {
+    sulyterom_class refused;
+    int has_offset;
+    size_t offset;
+    int yes;    /* whether i depends on j */
+    size_t row; /* that shows it, if so */
+} sulyterom_dependence;
+
+/* What sulyterom_same_in answers. */
+typedef struct sulyterom_comparison {
+    sulyterom_class refused;
+    int has_offset;
+    size_t offset;
+    int which;          /* the source that is refused, 1 or 2; else 0 */
+    int same;           /* whether both leave the same core */
+    size_t declaration; /* the first place at which they part, if not */
+} sulyterom_comparison;
+
+/* As sulyterom_load. */
+static inline sulyterom_loaded sulyterom_load_into(const uint8_t *source, size_t source_length,
+                                                   const sulyterom_tables *tables) {
+    uint64_t answer[SULYTEROM_ANSWER_WORDS] = {0, 0, 0};
+    sulyterom_loaded told = {SULYTEROM_ACCEPTED, 0, 0, 0, 0};
+    told.refused = (sulyterom_class)sulyterom_load(
+        source, source_length, (uint32_t *)tables->surface, tables->surface_rows * SULYTEROM_ROW_WORDS,
+        (uint32_t *)tables->core, tables->core_rows * SULYTEROM_ROW_WORDS, (uint32_t *)tables->declarations,
+        tables->declaration_records * SULYTEROM_RECORD_WORDS, tables->work, tables->work_words, answer,
+        SULYTEROM_ANSWER_WORDS);
+    if (told.refused == SULYTEROM_ACCEPTED) {
+        told.rows = (size_t)answer[1];
+        told.declarations = (size_t)answer[2];
+    } else {
+        told.has_offset = answer[0] == 1;
+        told.offset = (size_t)answer[1];
+    }
+    return told;
+}
+
+/* As sulyterom_depends. */
+static inline sulyterom_dependence sulyterom_depends_in(const uint8_t *source, size_t source_length, size_t i, size_t j,
+                                                        const sulyterom_tables *tables) {
+    uint64_t answer[SULYTEROM_ANSWER_WORDS] = {0, 0, 0};
+    sulyterom_dependence told = {SULYTEROM_ACCEPTED, 0, 0, 0, 0};
+    told.refused = (sulyterom_class)sulyterom_depends(
+        source, source_length, i, j, (uint32_t *)tables->surface, tables->surface_rows * SULYTEROM_ROW_WORDS,
+        (uint32_t *)tables->core, tables->core_rows * SULYTEROM_ROW_WORDS, (uint32_t *)tables->declarations,
+        tables->declaration_records * SULYTEROM_RECORD_WORDS, tables->work, tables->work_words, answer,
+        SULYTEROM_ANSWER_WORDS);
+    if (told.refused == SULYTEROM_ACCEPTED) {
+        told.yes = answer[0] == 1;
+        told.row = (size_t)answer[1];
+    } else {
+        told.has_offset = answer[0] == 1;
+        told.offset = (size_t)answer[1];
+    }
+    return told;
+}
+
+/* As sulyterom_same. The work area of the first tables serves both; that of the second is not used. */
+static inline sulyterom_comparison sulyterom_same_in(const uint8_t *first, size_t first_length, const uint8_t *second,
+                                                     size_t second_length, const sulyterom_tables *tables1,
+                                                     const sulyterom_tables *tables2) {
+    uint64_t answer[SULYTEROM_ANSWER_WORDS] = {0, 0, 0};
+    sulyterom_comparison told = {SULYTEROM_ACCEPTED, 0, 0, 0, 0, 0};
+    told.refused = (sulyterom_class)sulyterom_same(
+        first, first_length, second, second_length, (uint32_t *)tables1->surface,
+        tables1->surface_rows * SULYTEROM_ROW_WORDS, (uint32_t *)tables1->core, tables1->core_rows * SULYTEROM_ROW_WORDS,
+        (uint32_t *)tables1->declarations, tables1->declaration_records * SULYTEROM_RECORD_WORDS,
+        (uint32_t *)tables2->surface, tables2->surface_rows * SULYTEROM_ROW_WORDS, (uint32_t *)tables2->core,
+        tables2->core_rows * SULYTEROM_ROW_WORDS, (uint32_t *)tables2->declarations,
+        tables2->declaration_records * SULYTEROM_RECORD_WORDS, tables1->work, tables1->work_words, answer,
+        SULYTEROM_ANSWER_WORDS);
+    if (told.refused == SULYTEROM_ACCEPTED) {
+        told.same = answer[0] == 0;
+        told.declaration = (size_t)answer[1];
+    } else {
+        told.which = (int)answer[1];
+        told.has_offset = answer[0] == 2;
+        told.offset = (size_t)answer[2];
+    }
+    return told;
+}
+
+/* A class in a few words; "" for a number that is none. */
+static inline const char *sulyterom_class_text(sulyterom_class number) {
+    switch (number) {
+    case SULYTEROM_ACCEPTED: return "accepted";
+    case SULYTEROM_MALFORMED: return "malformed source";
+    case SULYTEROM_VERSION: return "version other than 0 1";
+    case SULYTEROM_RESERVED_NAME: return "reserved word where a name must stand";
+    case SULYTEROM_DUPLICATE_NAME: return "declaration name used before";
+    case SULYTEROM_UNKNOWN_NAME: return "unknown name";
+    case SULYTEROM_LONG_SOURCE: return "source over 65,535 bytes";
+    case SULYTEROM_FRAMES: return "more than 512 forms open in one term";
+    case SULYTEROM_SURFACE_FULL: return "surface row table full";
+    case SULYTEROM_DECLARATIONS_FULL: return "declaration list full";
+    case SULYTEROM_CORE_SHORT: return "core table has fewer rows than were read";
+    case SULYTEROM_WORK_SHORT: return "work area under 16,384 words";
+    case SULYTEROM_NO_DECLARATION: return "no declaration at a place asked of";
+    }
+    return "";
+}
 
 #ifdef __cplusplus
 }

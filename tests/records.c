@@ -1,8 +1,7 @@
-/* Lends the declaration list as records, and compares with the call that lends words: five words are a record. The answer,
-   the tables and every record must be equal, for lists of many lengths, and what lies behind the list must stay.
+/* Lends rows and declarations as structs, by the inline functions of sulyterom.h, and compares with the calls that lend words:
+   the answer and every word must be equal, for lists of many lengths, and what lies behind the list must stay.
    The last line is 'N passed, M failed'. */
 #include "sulyterom.h"
-#include "sulyterom_records.h"
 
 #include <stdio.h>
 #include <stdlib.h>
@@ -10,17 +9,17 @@
 
 typedef sulyterom_declaration record;
 
-enum { ROWS = 8 * 4096, WORK = 16384, RECORDS = 20000, LONG = 65536 };
+enum { ROWS = 4096, ROW_WORDS = ROWS * 8, WORK = 16384, RECORDS = 20000, LONG = 65536 };
 
 /* What a call is lent and leaves; the last record is behind the list. */
 typedef struct {
-    uint32_t surface[ROWS], core[ROWS], work[WORK];
+    sulyterom_row surface[ROWS], core[ROWS];
+    uint32_t work[WORK];
     record list[RECORDS + 1];
-    uint64_t answer[3];
-    uint8_t class;
 } call;
 
-static call words, records, words2, records2;
+static call words, structs, words2, structs2;
+static uint64_t answer[3];
 static char text[LONG + 1];
 static int passed, failed;
 static const record rubbish = {9, 9, 9, 9, 9};
@@ -29,15 +28,23 @@ static void fill(call *c) {
     memset(c->surface, 0xa5, sizeof c->surface);
     memset(c->core, 0xa5, sizeof c->core);
     memset(c->work, 0xa5, sizeof c->work);
-    memset(c->answer, 0xa5, sizeof c->answer);
     for (size_t k = 0; k <= RECORDS; k++) c->list[k] = rubbish;
 }
 
-static int same(const call *a, const call *b, size_t n) {
-    return a->class == b->class && !memcmp(a->answer, b->answer, sizeof a->answer) &&
-           !memcmp(a->surface, b->surface, sizeof a->surface) && !memcmp(a->core, b->core, sizeof a->core) &&
+static sulyterom_tables lent(call *c, size_t n) {
+    sulyterom_tables tables = {c->surface, ROWS, c->core, ROWS, c->list, n, c->work, WORK};
+    return tables;
+}
+
+static int left(const call *a, const call *b, size_t n) {
+    return !memcmp(a->surface, b->surface, sizeof a->surface) && !memcmp(a->core, b->core, sizeof a->core) &&
            !memcmp(a->work, b->work, sizeof a->work) && !memcmp(a->list, b->list, n * sizeof(record)) &&
            !memcmp(b->list + n, &rubbish, sizeof rubbish);
+}
+
+/* Whether three numbers are those of the last call with words. */
+static int answers(uint64_t count, uint64_t first, uint64_t second) {
+    return answer[0] == count && answer[1] == first && answer[2] == second;
 }
 
 static void check(int holds, const char *what, size_t length, size_t n) {
@@ -52,41 +59,66 @@ static void check(int holds, const char *what, size_t length, size_t n) {
 static void loads(const char *source, size_t length, size_t n) {
     const uint8_t *s = (const uint8_t *)source;
     fill(&words);
-    fill(&records);
-    words.class = sulyterom_load(s, length, words.surface, ROWS, words.core, ROWS, (uint32_t *)words.list, n * 5,
-                                 words.work, WORK, words.answer, 3);
-    records.class = sulyterom_load_records(s, length, records.surface, ROWS, records.core, ROWS, records.list, n,
-                                           records.work, WORK, records.answer, 3);
-    check(same(&words, &records, n), "loading", length, n);
+    fill(&structs);
+    uint8_t number = sulyterom_load(s, length, &words.surface[0].kind, ROW_WORDS, &words.core[0].kind, ROW_WORDS,
+                                    &words.list[0].kind, n * 5, words.work, WORK, answer, 3);
+    sulyterom_tables tables = lent(&structs, n);
+    sulyterom_loaded told = sulyterom_load_into(s, length, &tables);
+    int equal = number == 0 ? answers(2, told.rows, told.declarations) && !told.has_offset && told.offset == 0
+                            : answers((uint64_t)told.has_offset, told.offset, 0) && told.rows == 0 && told.declarations == 0;
+    check(equal && number == told.refused && left(&words, &structs, n), "loading", length, n);
 }
 
 static void asks(const char *source, size_t length, size_t i, size_t j, size_t n) {
     const uint8_t *s = (const uint8_t *)source;
     fill(&words);
-    fill(&records);
-    words.class = sulyterom_depends(s, length, i, j, words.surface, ROWS, words.core, ROWS, (uint32_t *)words.list, n * 5,
-                                    words.work, WORK, words.answer, 3);
-    records.class = sulyterom_depends_records(s, length, i, j, records.surface, ROWS, records.core, ROWS, records.list, n,
-                                              records.work, WORK, records.answer, 3);
-    check(same(&words, &records, n), "a dependence", length, n);
+    fill(&structs);
+    uint8_t number = sulyterom_depends(s, length, i, j, &words.surface[0].kind, ROW_WORDS, &words.core[0].kind, ROW_WORDS,
+                                       &words.list[0].kind, n * 5, words.work, WORK, answer, 3);
+    sulyterom_tables tables = lent(&structs, n);
+    sulyterom_dependence told = sulyterom_depends_in(s, length, i, j, &tables);
+    int equal = number == 0 ? answers((uint64_t)told.yes, told.row, 0) && !told.has_offset && told.offset == 0
+                            : answers((uint64_t)told.has_offset, told.offset, 0) && !told.yes && told.row == 0;
+    check(equal && number == told.refused && left(&words, &structs, n), "a dependence", length, n);
 }
 
 static void compares(const char *one, const char *other, size_t m, size_t n) {
     const uint8_t *s = (const uint8_t *)one, *t = (const uint8_t *)other;
     fill(&words);
     fill(&words2);
-    fill(&records);
-    fill(&records2);
-    words.class = sulyterom_same(s, strlen(one), t, strlen(other), words.surface, ROWS, words.core, ROWS,
-                                 (uint32_t *)words.list, m * 5, words2.surface, ROWS, words2.core, ROWS,
-                                 (uint32_t *)words2.list, n * 5, words.work, WORK, words.answer, 3);
-    records.class = sulyterom_same_records(s, strlen(one), t, strlen(other), records.surface, ROWS, records.core, ROWS,
-                                           records.list, m, records2.surface, ROWS, records2.core, ROWS, records2.list, n,
-                                           records.work, WORK, records.answer, 3);
-    check(same(&words, &records, m) && same(&words2, &records2, n), "a comparison", strlen(one), m);
+    fill(&structs);
+    fill(&structs2);
+    uint8_t number = sulyterom_same(s, strlen(one), t, strlen(other), &words.surface[0].kind, ROW_WORDS,
+                                    &words.core[0].kind, ROW_WORDS, &words.list[0].kind, m * 5, &words2.surface[0].kind,
+                                    ROW_WORDS, &words2.core[0].kind, ROW_WORDS, &words2.list[0].kind, n * 5, words.work,
+                                    WORK, answer, 3);
+    sulyterom_tables tables = lent(&structs, m), tables2 = lent(&structs2, n);
+    sulyterom_comparison told = sulyterom_same_in(s, strlen(one), t, strlen(other), &tables, &tables2);
+    int equal;
+    if (number == 0) {
+        equal = answers((uint64_t)!told.same, told.declaration, 0) && told.which == 0 && !told.has_offset;
+    } else {
+        equal = answers((uint64_t)(1 + told.has_offset), (uint64_t)told.which, told.offset) && !told.same;
+    }
+    int kept = left(&words, &structs, m) && left(&words2, &structs2, n);
+    check(equal && number == told.refused && kept, "a comparison", strlen(one), m);
 }
 
-/* 13,107 records are as many as the words of the local array make. */
+/* Every class has words of its own, and other numbers have none. */
+static void classes(void) {
+    for (int k = 0; k <= 12; k++) {
+        const char *text_of = sulyterom_class_text((sulyterom_class)k);
+        int alone = *text_of != 0;
+        for (int other = 0; other < k; other++) alone = alone && strcmp(text_of, sulyterom_class_text((sulyterom_class)other));
+        check(alone, "the text of a class", (size_t)k, 0);
+    }
+    check(*sulyterom_class_text((sulyterom_class)13) == 0, "the text of no class", 13, 0);
+    char version[32];
+    sprintf(version, "%d.%d.%d", SULYTEROM_VERSION_MAJOR, SULYTEROM_VERSION_MINOR, SULYTEROM_VERSION_PATCH);
+    check(strcmp(version, SULYTEROM_VERSION_TEXT) == 0, "the version", 0, 0);
+}
+
+/* Few, as many as the sources have, and more than a source can have. */
 static const size_t lengths[] = {0, 1, 2, 3, 4, 256, 3852, 3853, 13106, 13107, 13108, RECORDS};
 enum { LENGTHS = sizeof lengths / sizeof lengths[0] };
 
@@ -104,6 +136,7 @@ static size_t module(size_t wanted) {
 #define HEAD "(surface 0 1)(module m)"
 
 int main(void) {
+    classes();
     static const char input[] = HEAD "(postulate x nat)(postulate y (pi x (ref x) (ref x)))(opaque z (ref y) (ref x))";
     static const char *const others[] = {HEAD, HEAD "(postulate a (ref q))", HEAD "(postulate a nat)(postulate a nat)", "(surface 1 0)", HEAD "(postulate nat nat)"};
     static const char bytes[] = "( )a0;]\n\xc3";

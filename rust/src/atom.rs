@@ -1,5 +1,5 @@
 //! Parts of the source.
-use std::fmt;
+use core::fmt;
 
 /// A name or a numeral, which is a part of the source.
 #[derive(Clone, Copy, Eq, Hash, PartialEq)]
@@ -19,7 +19,7 @@ impl<'a> Atom<'a> {
 
     /// Its text: letters, digits and `_` of ASCII.
     pub fn as_str(&self) -> &'a str {
-        std::str::from_utf8(self.bytes).expect("an atom is ASCII")
+        core::str::from_utf8(self.bytes).expect("an atom is ASCII")
     }
 }
 

@@ -3,6 +3,7 @@ use crate::Refusal;
 
 /// The answer of [`same`](crate::same).
 #[derive(Clone, Copy, Debug, Eq, PartialEq)]
+#[must_use]
 pub enum Comparison {
     /// Both sources leave the same core.
     Same,
@@ -52,6 +53,6 @@ mod tests {
     #[test]
     #[should_panic(expected = "rules out 5 with [1, 3, 0]")]
     fn there_is_no_third_source() {
-        Comparison::from_numbers(5, [1, 3, 0]);
+        let _ = Comparison::from_numbers(5, [1, 3, 0]);
     }
 }

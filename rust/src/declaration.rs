@@ -1,6 +1,6 @@
 //! Declarations as a struct.
 use crate::{Atom, RECORD_WORDS};
-use std::fmt;
+use core::fmt;
 
 /// How a declaration is made.
 #[derive(Clone, Copy, Debug, Eq, Hash, PartialEq)]

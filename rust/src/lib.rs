@@ -2,14 +2,14 @@
 //!
 //! The work is done by the library `libstation.a`, in which every function is proved to do what a definition says. This
 //! crate adds what Rust expects: a [`Result`], views of rows and declarations as enums, tables that can be owned, lent
-//! and used again. It has no dependencies.
+//! and used again. It has no dependencies, and of the standard library it uses `core` and `alloc` alone.
 //!
 //! ```
-//! use sulyterom::{Row, Tables, load};
+//! use sulyterom::{Loader, Row};
 //!
 //! let source = b"(surface 0 1)(module m)(postulate x nat)(postulate y (pi x (ref x) (ref x)))";
-//! let mut tables = Tables::for_bytes(source.len());
-//! let loaded = load(source, &mut tables)?;
+//! let mut loader = Loader::new();
+//! let loaded = loader.load(source)?;
 //!
 //! let y = loaded.declaration(1).unwrap();
 //! assert_eq!(y.name.bytes, b"y");
@@ -23,34 +23,47 @@
 //! A source that cannot be loaded is refused with a class and, for some classes, an offset:
 //!
 //! ```
-//! # use sulyterom::{Class, Tables, load};
-//! let refusal = load(b"(surface 0 1)(module nat)", &mut Tables::new(10, 10)).unwrap_err();
+//! # use sulyterom::{Class, Loader};
+//! let refusal = Loader::new().load(b"(surface 0 1)(module nat)").unwrap_err();
 //! assert_eq!((refusal.class, refusal.offset), (Class::ReservedName, Some(21)));
 //! assert_eq!(refusal.to_string(), "refused 3 at 21: reserved word where a name must stand");
 //! ```
+//!
+//! A [`Loader`] has tables of its own and grows them. Where memory is lent by someone else, or is to have a limit, the
+//! functions [`load`], [`depends`] and [`same`] take [`Tables`] of any sizes.
 //!
 //! # Building
 //!
 //! `rt staticlib station` in the repository makes `target/staticlib/libstation.a`, for x86-64 Linux, where the build
 //! looks for it. `SULYTEROM_LIBRARY_FOLDER` may name another folder, by an absolute path.
-#![warn(missing_docs)]
+#![no_std]
+
+extern crate alloc;
 
 mod atom;
 mod comparison;
 mod declaration;
+mod dependence;
 mod library;
 mod loaded;
+mod loader;
+mod reference;
 mod refusal;
 mod row;
 mod tables;
+mod token;
 
 pub use atom::Atom;
 pub use comparison::Comparison;
 pub use declaration::{Declaration, DeclarationKind};
+pub use dependence::Dependence;
 pub use loaded::Loaded;
+pub use loader::Loader;
+pub use reference::{Reference, Target};
 pub use refusal::{Class, Refusal};
 pub use row::{Row, SurfaceRow};
 pub use tables::Tables;
+pub use token::{Token, TokenKind, token, tokens};
 
 /// Words of a row.
 pub const ROW_WORDS: usize = 8;
@@ -77,7 +90,7 @@ pub const MOST_FRAMES: usize = 512;
 /// ```
 /// use sulyterom::{Class, Tables, load};
 ///
-/// let mut tables = Tables::new(1, 1);
+/// let mut tables = Tables::with_sizes(1, 1);
 /// assert_eq!(load(b"(surface 0 1)(module m)(postulate x nat)", &mut tables)?.row_count(), 1);
 /// let refusal = load(b"(surface 0 1)(module m)(postulate x (succ zero))", &mut tables).unwrap_err();
 /// assert_eq!(refusal.class, Class::SurfaceFull);
@@ -87,16 +100,14 @@ pub fn load<'a, W>(source: &'a [u8], tables: &'a mut Tables<W>) -> Result<Loaded
 where
     W: AsRef<[u32]> + AsMut<[u32]>,
 {
-    match library::load(source, tables.lend()) {
-        (0, [2, rows, declarations]) => Ok(Loaded::new(source, tables, rows as usize, declarations as usize)),
-        (class, answer) => Err(Refusal::from_numbers(class, answer)),
-    }
+    let told = library::load(source, tables.lend());
+    Loaded::told(source, tables, told)
 }
 
-/// Asks whether the declaration at place `i` depends on the one at place `j`: the number of a row of `i`'s type or body
-/// that is a global `j`, or `None`.
+/// Asks whether the declaration at place `i` depends on the one at place `j`: whether a row of `i`'s type or body is a
+/// global `j`.
 ///
-/// The source is loaded first, and a yes or a no leaves the tables as [`load`] does.
+/// The source is loaded first, and a yes or a no leaves the tables as [`load`] does: the answer shows both.
 ///
 /// # Errors
 ///
@@ -108,20 +119,23 @@ where
 ///
 /// let source = b"(surface 0 1)(module m)(postulate x nat)(postulate y (pi x (ref x) (ref x)))";
 /// let mut tables = Tables::for_bytes(source.len());
-/// assert_eq!(depends(source, 1, 0, &mut tables)?, Some(1));
-/// assert_eq!(depends(source, 0, 1, &mut tables)?, None);
+/// assert_eq!(depends(source, 1, 0, &mut tables)?.row, Some(1));
+/// let no = depends(source, 0, 1, &mut tables)?;
+/// assert_eq!((no.row, no.loaded.declaration_count()), (None, 2));
 /// assert_eq!(depends(source, 0, 2, &mut tables).unwrap_err().class, Class::NoDeclaration);
 /// # Ok::<(), sulyterom::Refusal>(())
 /// ```
-pub fn depends<W>(source: &[u8], i: usize, j: usize, tables: &mut Tables<W>) -> Result<Option<usize>, Refusal>
+pub fn depends<'a, W>(
+    source: &'a [u8],
+    i: usize,
+    j: usize,
+    tables: &'a mut Tables<W>,
+) -> Result<Dependence<'a>, Refusal>
 where
-    W: AsMut<[u32]>,
+    W: AsRef<[u32]> + AsMut<[u32]>,
 {
-    match library::depends(source, i, j, tables.lend()) {
-        (0, [0, 0, 0]) => Ok(None),
-        (0, [1, row, 0]) => Ok(Some(row as usize)),
-        (class, answer) => Err(Refusal::from_numbers(class, answer)),
-    }
+    let told = library::depends(source, i, j, tables.lend());
+    Dependence::told(source, tables, told)
 }
 
 /// Asks whether two sources leave the same core: whether they agree in all but binder names, layout, comments and the
@@ -133,7 +147,7 @@ where
 /// ```
 /// use sulyterom::{Comparison, Tables, same};
 ///
-/// let (mut tables, mut others) = (Tables::new(9, 2), Tables::new(9, 2));
+/// let (mut tables, mut others) = (Tables::with_sizes(9, 2), Tables::with_sizes(9, 2));
 /// let first = b"(surface 0 1)(module m)(postulate x (pi a nat (id nat (ref a) zero)))";
 /// let second = b"(surface 0 1)(module n)(postulate x (pi b nat (id nat (ref b) zero))) ; renamed";
 /// assert_eq!(same(first, second, &mut tables, &mut others), Comparison::Same);

@@ -61,8 +61,11 @@ unsafe extern "C" {
     ) -> u8;
 }
 
+/// A class, 0 for an acceptance, a yes and a no; how many values follow, and the values.
+pub type Told = (u8, [u64; 3]);
+
 /// The class, 0 for acceptance; how many values follow, and the values.
-pub fn load(source: &[u8], lent: Tables<&mut [u32]>) -> (u8, [u64; 3]) {
+pub fn load(source: &[u8], lent: Tables<&mut [u32]>) -> Told {
     let mut answer = [0; 3];
     // SAFETY: each pointer comes with its slice's length, and the slices borrowed mutably are apart from all others.
     let class = unsafe {
@@ -85,7 +88,7 @@ pub fn load(source: &[u8], lent: Tables<&mut [u32]>) -> (u8, [u64; 3]) {
 }
 
 /// The class, 0 for yes and no; 1 and a row for a yes, 0 for a no.
-pub fn depends(source: &[u8], i: usize, j: usize, lent: Tables<&mut [u32]>) -> (u8, [u64; 3]) {
+pub fn depends(source: &[u8], i: usize, j: usize, lent: Tables<&mut [u32]>) -> Told {
     let mut answer = [0; 3];
     // SAFETY: as above; any numbers may be asked of.
     let class = unsafe {
@@ -110,7 +113,7 @@ pub fn depends(source: &[u8], i: usize, j: usize, lent: Tables<&mut [u32]>) -> (
 }
 
 /// The class, 0 for yes and no; 0 for a yes, 1 and a place for a no. The work area is that of `one`.
-pub fn same(first: &[u8], second: &[u8], one: Tables<&mut [u32]>, other: Tables<&mut [u32]>) -> (u8, [u64; 3]) {
+pub fn same(first: &[u8], second: &[u8], one: Tables<&mut [u32]>, other: Tables<&mut [u32]>) -> Told {
     let mut answer = [0; 3];
     // SAFETY: as above, for both sets.
     let class = unsafe {
@@ -138,4 +141,31 @@ pub fn same(first: &[u8], second: &[u8], one: Tables<&mut [u32]>, other: Tables<
         )
     };
     (class, answer)
+}
+
+/// The token at or behind an offset: kind (0 for a refused byte), start, end.
+pub fn token(source: &[u8], at: usize) -> (u8, usize, usize) {
+    stand_in_token(source, at)
+}
+
+// until the library exports its own
+fn stand_in_token(source: &[u8], mut at: usize) -> (u8, usize, usize) {
+    let layout = |byte: u8| matches!(byte, 9 | 10 | 13 | 32);
+    let atom = |byte: u8| byte.is_ascii_alphanumeric() || byte == b'_' || byte == b'-';
+    loop {
+        match source.get(at) {
+            None => return (4, source.len(), source.len()),
+            Some(byte) if layout(*byte) => at += 1,
+            Some(b';') => at += source[at..].iter().position(|byte| *byte == 10).unwrap_or(source.len() - at),
+            Some(b'(') => return (1, at, at + 1),
+            Some(b')') => return (2, at, at + 1),
+            Some(byte) if !atom(*byte) => return (0, at, at),
+            Some(_) => break,
+        }
+    }
+    let end = source[at..].iter().position(|byte| !atom(*byte)).map_or(source.len(), |length| at + length);
+    match source.get(end) {
+        Some(byte) if !layout(*byte) && !matches!(byte, b'(' | b')' | b';') => (0, end, end),
+        _ => (3, at, end),
+    }
 }

@@ -1,6 +1,7 @@
 //! What a load leaves, to be looked at.
-use crate::{Declaration, RECORD_WORDS, ROW_WORDS, Row, SurfaceRow, Tables};
-use std::fmt;
+use crate::library::Told;
+use crate::{Declaration, RECORD_WORDS, ROW_WORDS, Reference, Refusal, Row, SurfaceRow, Tables};
+use core::fmt;
 
 /// A source that was loaded, and what the tables hold of it.
 ///
@@ -9,7 +10,7 @@ use std::fmt;
 /// ```
 /// # use sulyterom::{Tables, load};
 /// let source = b"(surface 0 1)(module m)(postulate x nat)(postulate y (pi x (ref x) (ref x)))";
-/// let mut tables = Tables::new(4, 2);
+/// let mut tables = Tables::with_sizes(4, 2);
 /// let listing = "\
 /// nodes 4 declarations 2
 /// 0 nat
@@ -31,17 +32,34 @@ pub struct Loaded<'a> {
 }
 
 impl<'a> Loaded<'a> {
-    pub(crate) fn new<W: AsRef<[u32]>>(
-        source: &'a [u8],
-        tables: &'a Tables<W>,
-        rows: usize,
-        declarations: usize,
-    ) -> Self {
+    /// What the tables hold after a load with this answer.
+    pub(crate) fn told<W: AsRef<[u32]>>(source: &'a [u8], tables: &'a Tables<W>, told: Told) -> Result<Self, Refusal> {
+        match told {
+            (0, [2, rows, declarations]) => Ok(Self::new(source, tables, rows as usize, declarations as usize)),
+            (class, answer) => Err(Refusal::from_numbers(class, answer)),
+        }
+    }
+
+    /// What the tables hold after an acceptance: behind the last row and record they are 0, which is no kind.
+    pub(crate) fn found<W: AsRef<[u32]>>(source: &'a [u8], tables: &'a Tables<W>) -> Self {
+        let count = |table: &[u32], words: usize| {
+            let (mut low, mut high) = (0, table.len() / words);
+            while low < high {
+                let middle = low.midpoint(high);
+                if table[middle * words] == 0 { high = middle } else { low = middle + 1 }
+            }
+            low
+        };
+        let rows = count(tables.core(), ROW_WORDS);
+        Self::new(source, tables, rows, count(tables.declarations(), RECORD_WORDS))
+    }
+
+    fn new<W: AsRef<[u32]>>(source: &'a [u8], tables: &'a Tables<W>, rows: usize, declarations: usize) -> Self {
         Self {
             source,
-            surface: &tables.surface.as_ref()[..rows * ROW_WORDS],
-            core: &tables.core.as_ref()[..rows * ROW_WORDS],
-            declarations: &tables.declarations.as_ref()[..declarations * RECORD_WORDS],
+            surface: &tables.surface()[..rows * ROW_WORDS],
+            core: &tables.core()[..rows * ROW_WORDS],
+            declarations: &tables.declarations()[..declarations * RECORD_WORDS],
         }
     }
 
@@ -75,7 +93,7 @@ impl<'a> Loaded<'a> {
     ///
     /// ```
     /// # use sulyterom::{SurfaceRow, Tables, load};
-    /// let mut tables = Tables::new(3, 1);
+    /// let mut tables = Tables::with_sizes(3, 1);
     /// let loaded = load(b"(surface 0 1)(module m)(postulate f (pi n nat nat))", &mut tables)?;
     /// let Some(SurfaceRow::Pi { binder, .. }) = loaded.surface_row(2) else { panic!() };
     /// assert_eq!((binder.as_str(), binder.start), ("n", 40));
@@ -100,6 +118,26 @@ impl<'a> Loaded<'a> {
     pub fn declarations(&self) -> impl ExactSizeIterator<Item = Declaration<'a>> + DoubleEndedIterator + use<'a> {
         let source = self.source;
         self.declarations.chunks_exact(RECORD_WORDS).map(move |record| Declaration::new(source, record))
+    }
+
+    /// The place of the declaration with a name.
+    pub fn place_of(&self, name: &[u8]) -> Option<usize> {
+        self.declarations().position(|declaration| declaration.name.bytes == name)
+    }
+
+    /// The references, in the order of the source.
+    ///
+    /// ```
+    /// # use sulyterom::{Loader, Target};
+    /// let mut loader = Loader::new();
+    /// let loaded = loader.load(b"(surface 0 1)(module m)(postulate x nat)(postulate y (pi x (ref x) (ref x)))")?;
+    /// let found: Vec<_> = loaded.references().map(|it| (it.name.start, it.name.as_str(), it.target)).collect();
+    /// assert_eq!(found, [(64, "x", Target::Global { place: 0 }), (72, "x", Target::Var { count: 0 })]);
+    /// # Ok::<(), sulyterom::Refusal>(())
+    /// ```
+    pub fn references(&self) -> impl DoubleEndedIterator<Item = Reference<'a>> + use<'a> {
+        let both = self.surface_rows().zip(self.rows()).enumerate();
+        both.filter_map(|(row, (read, core))| Reference::of(row, read, core))
     }
 }
 

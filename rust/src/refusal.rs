@@ -1,9 +1,10 @@
 //! Refusals, and how they are shown.
-use std::error::Error;
-use std::fmt;
+use core::error::Error;
+use core::fmt;
 
 /// Why a source was refused, by document 01's numbers.
 #[derive(Clone, Copy, Debug, Eq, Hash, Ord, PartialEq, PartialOrd)]
+#[non_exhaustive]
 #[repr(u8)]
 pub enum Class {
     /// A byte, or a token, that does not fit; with the offset of its first byte.
@@ -34,7 +35,7 @@ pub enum Class {
 
 impl Class {
     /// All classes, by number.
-    pub const ALL: [Self; 12] = [
+    pub const ALL: &[Self] = &[
         Self::Malformed,
         Self::Version,
         Self::ReservedName,
@@ -50,6 +51,7 @@ impl Class {
     ];
 
     /// Document 01's number.
+    #[must_use]
     pub const fn number(self) -> u8 {
         self as u8
     }
@@ -80,9 +82,9 @@ impl fmt::Display for Class {
 ///
 /// ```
 /// # use sulyterom::{Tables, load};
-/// let refusal = load(b"(surface 0 1) module", &mut Tables::new(0, 0)).unwrap_err();
+/// let refusal = load(b"(surface 0 1) module", &mut Tables::with_sizes(0, 0)).unwrap_err();
 /// assert_eq!(refusal.to_string(), "refused 1 at 14: malformed source");
-/// let refusal = load(b"(surface 1 0)", &mut Tables::new(0, 0)).unwrap_err();
+/// let refusal = load(b"(surface 1 0)", &mut Tables::with_sizes(0, 0)).unwrap_err();
 /// assert_eq!(refusal.to_string(), "refused 2: version other than 0 1");
 /// ```
 #[derive(Clone, Copy, Debug, Eq, Hash, PartialEq)]
@@ -96,7 +98,7 @@ pub struct Refusal {
 impl Refusal {
     /// A refusal as the library tells it: the class, how many values follow, and these.
     pub(crate) fn from_numbers(number: u8, answer: [u64; 3]) -> Self {
-        let class = Class::ALL.into_iter().find(|class| class.number() == number);
+        let class = Class::ALL.iter().copied().find(|class| class.number() == number);
         let offset = match answer {
             [0, 0, 0] => Some(None),
             [1, at, 0] => Some(Some(at as usize)),

@@ -1,6 +1,6 @@
 //! Rows of the two tables as enums.
 use crate::Atom;
-use std::fmt;
+use core::fmt;
 
 /// A row of the core table: a term with names resolved.
 ///
@@ -137,7 +137,7 @@ impl<'a> Row<'a> {
 }
 
 /// At most six numbers.
-fn first<const N: usize>(numbers: [usize; N]) -> std::iter::Take<std::array::IntoIter<usize, 6>> {
+fn first<const N: usize>(numbers: [usize; N]) -> core::iter::Take<core::array::IntoIter<usize, 6>> {
     let mut six = [0; 6];
     six[..N].copy_from_slice(&numbers);
     six.into_iter().take(N)
@@ -158,6 +158,7 @@ impl fmt::Display for Row<'_> {
 ///
 /// A ref's core row is a var or a global. Every form but these four has the same row in both tables.
 #[derive(Clone, Copy, Debug, Eq, Hash, PartialEq)]
+#[non_exhaustive]
 #[allow(missing_docs)]
 pub enum SurfaceRow<'a> {
     Ref { name: Atom<'a> },

@@ -52,6 +52,7 @@ fn both_tables_have_the_same_terms() {
                     assert_eq!(same, row);
                     continue;
                 }
+                other => panic!("a new kind of row: {other:?}"),
             };
             assert_eq!((row.word(), row.children().collect()), (word, children));
             seen += 1;

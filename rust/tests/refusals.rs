@@ -9,10 +9,9 @@ const INPUT: &str = "(surface 0 1)(module m)(postulate x nat)(postulate y (pi x 
 /// Loads into tables of these lengths in words that hold no 0, and sees that a refusal leaves nothing else.
 fn refused_with(source: &[u8], lengths: [usize; 4]) -> Refusal {
     let [surface, core, declarations, work] = lengths.map(|length| vec![7; length]);
-    let mut tables = Tables { surface, core, declarations, work };
+    let mut tables = Tables::from_words(surface, core, declarations, work);
     let refusal = load(source, &mut tables).expect_err("a refusal");
-    let Tables { surface, core, declarations, work } = tables;
-    for (words, length) in [surface, core, declarations, work].iter().zip(lengths) {
+    for (words, length) in tables.into_words().iter().zip(lengths) {
         assert_eq!(*words, vec![0; length], "left by {refusal}");
     }
     refusal
@@ -67,7 +66,7 @@ fn names() {
 #[test]
 fn limits_of_the_source() {
     let padded = |length: usize| format!("{HEAD}{}", " ".repeat(length - HEAD.len()));
-    let mut tables = Tables::new(600, 3);
+    let mut tables = Tables::with_sizes(600, 3);
     assert_eq!(load(padded(LONGEST_SOURCE).as_bytes(), &mut tables).unwrap().row_count(), 0);
     assert_eq!(refused(padded(LONGEST_SOURCE + 1).as_bytes()), nowhere(Class::LongSource));
     assert_eq!(load(nested(MOST_FRAMES).as_bytes(), &mut tables).unwrap().row_count(), MOST_FRAMES + 1);

@@ -1,5 +1,5 @@
 //! The views of a loaded source: every kind of row, names and numerals as parts of the source, declarations, the listing.
-use sulyterom::{Atom, Declaration, DeclarationKind, Row, SurfaceRow, Tables, load};
+use sulyterom::{Atom, Declaration, DeclarationKind, Loader, Row, SurfaceRow, Tables, Target, load};
 
 /// Every kind of row, bodies, and digits that are no 32-bit number.
 const KINDS: &str = "\
@@ -148,7 +148,7 @@ fn declarations_with_and_without_a_body() {
 #[test]
 fn names_are_parts_of_the_source_itself() {
     let source = b"(surface 0 1) (module m) (postulate a_Long_n4me (universe 0))".to_vec();
-    let mut tables = Tables::new(1, 1);
+    let mut tables = Tables::with_sizes(1, 1);
     let loaded = load(&source, &mut tables).unwrap();
     let name = loaded.declaration(0).unwrap().name;
     assert_eq!((name.start, name.as_str()), (36, "a_Long_n4me"));
@@ -171,4 +171,22 @@ fn children_come_before_their_row() {
     // what is no child is a type or a body
     let tops: Vec<usize> = (0..roots.len()).filter(|row| roots[*row]).collect();
     assert_eq!(tops, [0, 7, 15, 25, 37]);
+}
+
+#[test]
+fn references_in_the_order_of_the_source() {
+    let mut loader = Loader::new();
+    let loaded = loader.load(KINDS.as_bytes()).unwrap();
+    let (var, global) = (|count| Target::Var { count }, |place| Target::Global { place });
+    let expected = [
+        (9, atom("(ref x) (id", 5, 1), var(0)),
+        (11, atom("(ref x) (ref y)", 5, 1), var(1)),
+        (12, atom("(ref y)", 5, 1), var(0)),
+        (16, atom("(ref a)", 5, 1), global(0)),
+        (18, atom("(ref z)", 5, 1), var(0)),
+    ];
+    assert!(loaded.references().map(|it| (it.row, it.name, it.target)).eq(expected));
+    let starts: Vec<usize> = loaded.references().map(|it| it.name.start).collect();
+    assert!(starts.is_sorted());
+    assert_eq!((loaded.place_of(b"b"), loaded.place_of(b"z")), (Some(1), None));
 }

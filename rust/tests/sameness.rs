@@ -48,15 +48,16 @@ fn where_the_two_part() {
 #[test]
 fn a_yes_and_a_no_leave_what_loading_leaves() {
     for second in [SOURCE.to_vec(), changed("universe 10", "universe 9")] {
-        let rubbish =
-            || Tables { surface: vec![7; 300], core: vec![7; 301], declarations: vec![7; 44], work: vec![7; 16_384] };
+        let rubbish = || Tables::from_words(vec![7; 300], vec![7; 301], vec![7; 44], vec![7; 16_384]);
         let (mut tables, mut others) = (rubbish(), rubbish());
-        same(SOURCE, &second, &mut tables, &mut others);
+        let answer = same(SOURCE, &second, &mut tables, &mut others);
+        assert_eq!(answer == Comparison::Same, second == SOURCE);
         let (mut first_alone, mut second_alone) = (rubbish(), rubbish());
         load(SOURCE, &mut first_alone).unwrap();
         load(&second, &mut second_alone).unwrap();
         assert_eq!(tables, first_alone);
-        assert_eq!(others, Tables { work: vec![7; 16_384], ..second_alone });
+        let [surface, core, declarations, _] = second_alone.into_words();
+        assert_eq!(others, Tables::from_words(surface, core, declarations, vec![7; 16_384]));
     }
 }
 
@@ -64,22 +65,14 @@ fn a_yes_and_a_no_leave_what_loading_leaves() {
 fn the_first_refusal_comes_first() {
     let unknown = changed("(lam a (ref a))", "(lam a (ref q))");
     let refused = |class, offset| Refusal { class, offset };
-    let mut tables =
-        Tables { surface: vec![7; 300], core: vec![7; 300], declarations: vec![7; 44], work: vec![7; 16_384] };
+    let mut tables = Tables::from_words(vec![7; 300], vec![7; 300], vec![7; 44], vec![7; 16_384]);
     let mut others = tables.clone();
     let answer = same(SOURCE, &unknown, &mut tables, &mut others);
     assert_eq!(answer, Comparison::SecondRefused(refused(Class::UnknownName, None)));
     let answer = same(b"(", &unknown, &mut tables, &mut others);
     assert_eq!(answer, Comparison::FirstRefused(refused(Class::Malformed, Some(1))));
-    for words in [
-        tables.surface,
-        tables.core,
-        tables.declarations,
-        tables.work,
-        others.surface,
-        others.core,
-        others.declarations,
-    ] {
+    let ([surface, core, declarations, work], others) = (tables.into_words(), others.into_words());
+    for words in [&surface, &core, &declarations, &work, &others[0], &others[1], &others[2]] {
         assert!(words.iter().all(|word| *word == 0));
     }
 }

@@ -12,13 +12,6 @@ stale() {
   return 1
 }
 
-# copied FROM TO: TO is FROM's copy, left alone where it is already.
-copied() {
-  cmp -s "$1" "$2" && return 0
-  mkdir -p "$(dirname "$2")"
-  cp "$1" "$2"
-}
-
 # compiled OUTPUT SOURCE 'INPUTS' WORDS..: OUTPUT from SOURCE, again where one of INPUTS is newer.
 compiled() {
   local output=$1 source=$2 inputs=$3

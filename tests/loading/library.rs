@@ -12,13 +12,13 @@ pub fn load(source: &[u8], lent: Tables<&mut [u32]>, answer: &mut [u64; 3]) -> u
 
 /// Whether declaration i depends on j: the class, 0 for yes and no; the answer is 1 and a row for a yes, 0 for a no.
 pub fn depends(source: &[u8], [i, j]: [usize; 2], lent: Tables<&mut [u32]>, answer: &mut [u64; 3]) -> u8 {
-    let shown = sulyterom::depends(source, i, j, &mut tables(lent)).map(at_most_one);
+    let shown = sulyterom::depends(source, i, j, &mut tables(lent)).map(|answer| at_most_one(answer.row));
     numbers(shown, answer)
 }
 
 pub fn tables(lent: Tables<&mut [u32]>) -> sulyterom::Tables<&mut [u32]> {
     let Tables { surface, core, declarations, work } = lent;
-    sulyterom::Tables { surface, core, declarations, work }
+    sulyterom::Tables::from_words(surface, core, declarations, work)
 }
 
 fn at_most_one(value: Option<usize>) -> [u64; 3] {

@@ -1,11 +1,16 @@
 -- What the readers of one token give, by the token that stands next. Assumes nothing.
-use Prim.Native.Nat.{ℕ}
+use Prim.Native.Nat.{ℕ, _+_, _<_}
 use mathlib.Core.Path.{_≡_, refl, sym, _∙_, ap}
 use mathlib.Core.Bool.{Bool, true, false, not, cond}
 use mathlib.Core.List.{List}
+use native.Mathlib.Omega.{arith}
 use lib.Dec.{eqb}
+use lib.ListN.{length, getD, drop}
 use borrow.Author.Tests.{eq-eqb, ne-eqb}
-use Rattle.token.specs.Token.{next-token}
+use Rattle.token.specs.Token as token·
+use Rattle.token.specs.Token.{byte-class, next-token}
+use Rattle.token.specs.declared.ByteClass.{ByteClass}
+use Rattle.token.proofs.Runs.{layout-blank, layout-stop, here-open, here-close, next-at}
 use Rattle.token.specs.declared.TokenKind.{TokenKind}
 use Rattle.token.specs.declared.Token.{Token}
 use Rattle.token.specs.declared.Refusal.{Refusal}
@@ -19,6 +24,28 @@ use Rattle.surface.specs.Reading.{token, opening, closing, atom, word, natural,
 use Rattle.surface.specs.Text.{text, is-open, is-close, is-atom}
 use Rattle.expects.specs.Expects.{position-at, Reads}
 use Rattle.expects.specs.Tokens.{kind-number, of-kind}
+
+-- A parenthesis at its place is the next token.
+module _ (s : List ℕ) (at : ℕ) (h : at < length s) where
+  pub open-here : getD s at 0 ≡ 40 → token·.token TokenKind.LParen at (at + 1) ≡ next-token s at
+  unfolding byte-class
+  open-here e =
+      let k : byte-class (getD s at 0) ≡ ByteClass.LParen = ap byte-class e in
+      sym (next-at s at at (sym (layout-stop s at h ByteClass.LParen k (λ q. let z : _≡_ {A = ℕ} 0 1 = cc in omega arith) (λ q. let z : _≡_ {A = ℕ} 0 1 = cc in omega arith)))
+      ∙ here-open s at h k)
+
+  pub close-here : getD s at 0 ≡ 41 → token·.token TokenKind.RParen at (at + 1) ≡ next-token s at
+  unfolding byte-class
+  close-here e =
+      let k : byte-class (getD s at 0) ≡ ByteClass.RParen = ap byte-class e in
+      sym (next-at s at at (sym (layout-stop s at h ByteClass.RParen k (λ q. let z : _≡_ {A = ℕ} 0 1 = cc in omega arith) (λ q. let z : _≡_ {A = ℕ} 0 1 = cc in omega arith)))
+      ∙ here-close s at h k)
+
+  pub space-here : getD s at 0 ≡ 32 → next-token s (at + 1) ≡ next-token s at
+  unfolding byte-class next-token
+  space-here e =
+      let q = sym (layout-blank s at h (ap byte-class e)) in
+      λ i. token·.token-here (q i) (drop (q i) s)
 
 -- A token of a wanted kind, where x stands next.
 module _ (s : List ℕ) (wanted : TokenKind) (at : ℕ) (x : Lexed) (h : x ≡ next-token s at) where

@@ -1,13 +1,16 @@
 -- Tokens by the number of their kind, and their place in a source. Assumes nothing.
+use mathlib.Core.Path.{_≡_}
 use mathlib.Core.List.{List}
 use Prim.Native.Nat.{ℕ, _≤_}
 use lib.Dec.{eqb}
+use Rattle.token.specs.Token.{next-token}
 use Rattle.token.specs.declared.TokenKind.{TokenKind}
 use Rattle.token.specs.declared.Token.{Token}
 use Rattle.token.specs.declared.Lexed.{Lexed}
 use Rattle.token.specs.declared.Lexed.the-variants.{Got, Refused}
 use Rattle.surface.specs.Reader.{Reader, _>>=_, _>>_, pure, require, at-token}
 use Rattle.surface.specs.Reading.{token}
+use Rattle.expects.specs.Expects.{Reads}
 
 abbrev pub kind-number : TokenKind → ℕ
 kind-number TokenKind.LParen = 0
@@ -21,6 +24,10 @@ of-kind s wanted = do
   t ← token s
   require (eqb (kind-number (t .kind)) (kind-number wanted)) (at-token 1 t)
   pure t
+
+-- r is that token, where l stands next in a source at an offset.
+abbrev pub OfKind : Lexed → TokenKind → Lexed → Type 0
+OfKind l wanted r = (s : List ℕ) (at : ℕ) → l ≡ next-token s at → Reads s (of-kind s wanted) at r
 
 -- A token that stands in a source of so many bytes.
 pub record Inside (hi : ℕ) (t : Token) : Type 0 where

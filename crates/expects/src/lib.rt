@@ -3,12 +3,13 @@
 ghost use mathlib.Core.Path.{_≡_};
 ghost use Prim.Native.Nat.{ℕ, _≤_, _<_};
 ghost use lib.ListN.{length};
+ghost use Rattle.token.specs.Token.{next-token};
 ghost use Rattle.terms.specs.Forms.{edition-0-1, forms, form-of-word};
 ghost use Rattle.surface.specs.Reader.{at-offset};
 ghost use Rattle.surface.specs.Reading.{opening, closing, atom, word, natural, name, declaration-kind};
 ghost use Rattle.expects.specs.Expects.{Reads, Begins, Heads};
 ghost use Rattle.expects.specs.FormOfWord.{form-numbers, form-at};
-ghost use Rattle.expects.specs.Tokens.{kind-number, Inside, LexedInside, of-kind};
+ghost use Rattle.expects.specs.Tokens.{kind-number, Inside, LexedInside, OfKind};
 ghost use Rattle.expects.specs.Terms.{LabelWith, LabelAlone, BeginsOn, BeginsWith, ClosesLeaf};
 ghost use Rattle.expects.specs.Lines.{tag, version-0-1, ClosesVersion, SurfaceLine, ModuleLine};
 use terms::Label;
@@ -60,11 +61,46 @@ fn kind_number(k: TokenKind) -> u8
     }
 }
 
-// The next token, which must be of the wanted kind.
-fn expect_kind(s: &[u8], at: usize, wanted: TokenKind) -> Lexed
-    ensures { λ r. ⌜ Reads (now (s .entry)) (of-kind (now (s .entry)) wanted) at r ⌝ }
+// The next token. A parenthesis that stands at its place is told there, before layout is looked for.
+fn token_at(s: &[u8], at: usize) -> Lexed
+    ensures { λ r. ⌜ r ≡ next-token (now (s .entry)) at ⌝ }
 {
-    let l = token::next_token(s, at);
+    if at < s.len() {
+        let b = s[at];
+        if b == 40 {
+            return Lexed::Got(Token {
+                kind: TokenKind::LParen,
+                start: at,
+                end: at + 1,
+            });
+        }
+        if b == 41 {
+            return Lexed::Got(Token {
+                kind: TokenKind::RParen,
+                start: at,
+                end: at + 1,
+            });
+        }
+    }
+    token::next_token(s, at)
+}
+
+// The next token. One space, as often stands between two tokens, is passed before the token is looked at.
+pub fn next_token(s: &[u8], at: usize) -> Lexed
+    ensures { λ r. ⌜ r ≡ next-token (now (s .entry)) at ⌝ }
+{
+    if at < s.len() {
+        if s[at] == 32 {
+            return token_at(s, at + 1);
+        }
+    }
+    token_at(s, at)
+}
+
+// A token that was read, which must be of the wanted kind.
+fn expect_kind(l: Lexed, wanted: TokenKind) -> Lexed
+    ensures { λ r. ⌜ OfKind l wanted r ⌝ }
+{
     match l {
         Lexed::Refused(r) => Lexed::Refused(r),
         Lexed::Got(t) => {
@@ -81,19 +117,19 @@ fn expect_kind(s: &[u8], at: usize, wanted: TokenKind) -> Lexed
 pub fn expect_lparen(s: &[u8], at: usize) -> Lexed
     ensures { λ r. ⌜ Reads (now (s .entry)) (opening (now (s .entry))) at r ⌝ }
 {
-    expect_kind(s, at, TokenKind::LParen)
+    expect_kind(next_token(s, at), TokenKind::LParen)
 }
 
 pub fn expect_rparen(s: &[u8], at: usize) -> Lexed
     ensures { λ r. ⌜ Reads (now (s .entry)) (closing (now (s .entry))) at r ⌝ }
 {
-    expect_kind(s, at, TokenKind::RParen)
+    expect_kind(next_token(s, at), TokenKind::RParen)
 }
 
 pub fn next_atom(s: &[u8], at: usize) -> Lexed
     ensures { λ r. ⌜ Reads (now (s .entry)) (atom (now (s .entry))) at r ⌝ }
 {
-    expect_kind(s, at, TokenKind::Atom)
+    expect_kind(token::next_token(s, at), TokenKind::Atom)
 }
 
 pub fn expect_atom(s: &[u8], at: usize, expected: &[u8]) -> Lexed
@@ -330,7 +366,7 @@ fn begin_form(s: &[u8], lparen: Token) -> Begun
 pub fn begin_term(s: &[u8], at: usize) -> Begun
     ensures { λ r. ⌜ Begins (now (s .entry)) at r ⌝ }
 {
-    let l = token::next_token(s, at);
+    let l = next_token(s, at);
     match l {
         Lexed::Refused(r) => Begun::Refused(r),
         Lexed::Got(t) => {

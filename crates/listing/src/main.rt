@@ -1,7 +1,10 @@
 // The listing of document 01: reads standard input and prints the core module that loading leaves, or the refusal.
+mod standard;
+
 ghost use Rattle.listing.specs.Program.{Written};
-use libc::STDIN_FILENO;
-use libc::STDOUT_FILENO;
+use standard::Input;
+use standard::read_input;
+use standard::write_output;
 use surface::Answer;
 
 // "It lends 1,024 rows to each row table, 256 declarations and a work area of 16,384 words." The text has room for every listing of
@@ -23,13 +26,23 @@ fn list(s: &[u8], text: &mut [u8]) -> usize
     }
 }
 
-// The buffer has a byte more than the longest source that is taken, so that a longer one is seen without reading it all.
+fn print_listing(s: &[u8]) {
+    let mut text = [0u8; 262144];
+    let length = list(s, &mut text);
+    if length <= text.len() {
+        if !write_output(&text[..length]) {
+            os::fail(b"listing: cannot write standard output");
+        }
+    }
+}
+
+// The buffer has a byte more than the longest source that is taken, so that a longer one is seen without reading it all. Of an input
+// that could not be read nothing is said but that.
 fn main() {
     let mut source = io::large_buffer();
-    let n = io::read_full(STDIN_FILENO, &mut source);
-    let mut text = [0u8; 262144];
-    let length = list(&source[..n], &mut text);
-    if length <= text.len() {
-        io::write_all(STDOUT_FILENO, &text[..length]);
+    let input = read_input(&mut source);
+    match input {
+        Input::Bytes(n) => print_listing(&source[..n]),
+        Input::Failed => os::fail(b"listing: cannot read standard input"),
     }
 }

@@ -193,7 +193,7 @@ fn next_declaration(
     ensures { λ r. ⌜ Steps (now (s .entry)) (now (table .entry)) (now (list .entry)) (now (work .entry)) at rows k r (now (table .exit)) (now (list .exit)) (now (work .exit)) ⌝ }
     ensures { λ r. ⌜ HasRoom (now (list .entry)) k r ⌝ }
 {
-    let l = token::next_token(s, at);
+    let l = expects::next_token(s, at);
     match l {
         Lexed::Refused(r) => Step::Refused(r),
         Lexed::Got(t) => {

@@ -1,7 +1,12 @@
-// Loads two sources with the declaration list lent as a slice of records, and prints the answer and the first three records of the list: 01's input of the listing, and a source that is refused.
+// Asks of two sources with the declaration list lent as a slice of records, and prints the answer and the first three records of the list:
+// 01's input of the listing, which is loaded, read and asked about a dependence, and a source that is refused.
 use libc::STDOUT_FILENO;
+use reader::ModuleRead;
+use record_loader::Question;
+use record_loader::Reply;
 use records::Declaration;
 use surface::Answer;
+use surface::Dependence;
 use token::Place;
 use token::Refusal;
 ghost use mathlib.Core.Path.{_≡_};
@@ -20,20 +25,22 @@ fn used_record() -> Declaration
     }
 }
 
-// The list of 256 records is a local array, which is lent to `load`; then its words are handed out. By hand, and with plain parameters, so that its callers are covered.
-fn load_list(
+// The list of 256 records is a local array, which is lent to `ask_records`; then its words are handed out. By hand, and with plain
+// parameters, so that its callers are covered.
+fn ask_list(
+    question: Question,
     s: &[u8],
     surface: &mut [u32],
     core: &mut [u32],
     work: &mut [u32],
     words: &mut [u32],
-) -> Answer
-    ensures { λ r. ⌜ Left (now (s .entry)) (now (surface .entry)) (now (core .entry)) (now (work .entry)) (now (words .entry)) r (now (surface .exit)) (now (core .exit)) (now (work .exit)) (now (words .exit)) ⌝ }
+) -> Reply
+    ensures { λ r. ⌜ Left (now (s .entry)) question (now (surface .entry)) (now (core .entry)) (now (work .entry)) (now (words .entry)) r (now (surface .exit)) (now (core .exit)) (now (work .exit)) (now (words .exit)) ⌝ }
 {
     let mut list = [used_record(); 256];
-    let answer = record_loader::load(s, surface, core, &mut list, work);
+    let reply = record_loader::ask_records(question, s, surface, core, &mut list, work);
     records::write_words(&list, words);
-    answer
+    reply
 }
 
 fn print_number(n: u64) {
@@ -51,14 +58,49 @@ fn print_refusal(refusal: Refusal) {
     }
 }
 
-fn print_answer(answer: Answer) {
+fn print_counts(rows: usize, declarations: usize) {
+    print_number(rows as u64);
+    print_number(declarations as u64);
+}
+
+fn print_loaded(answer: Answer) {
     match answer {
         Answer::Loaded { rows, declarations } => {
             io::write_all(STDOUT_FILENO, b"loaded");
-            print_number(rows as u64);
-            print_number(declarations as u64);
+            print_counts(rows, declarations);
         }
         Answer::Refused(refusal) => print_refusal(refusal),
+    }
+}
+
+fn print_read(answer: ModuleRead) {
+    match answer {
+        ModuleRead::Done { rows, declarations } => {
+            io::write_all(STDOUT_FILENO, b"read");
+            print_counts(rows, declarations);
+        }
+        ModuleRead::Refused(refusal) => print_refusal(refusal),
+    }
+}
+
+fn print_dependence(answer: Dependence) {
+    match answer {
+        Dependence::Yes { row } => {
+            io::write_all(STDOUT_FILENO, b"yes");
+            print_number(row as u64);
+        }
+        Dependence::No => {
+            io::write_all(STDOUT_FILENO, b"no");
+        }
+        Dependence::Refused(refusal) => print_refusal(refusal),
+    }
+}
+
+fn print_reply(reply: Reply) {
+    match reply {
+        Reply::Loaded(answer) => print_loaded(answer),
+        Reply::Parsed(answer) => print_read(answer),
+        Reply::Depends(answer) => print_dependence(answer),
     }
     io::write_all(STDOUT_FILENO, b"\n");
 }
@@ -74,19 +116,26 @@ fn print_record(words: &[u32], k: usize) {
     io::write_all(STDOUT_FILENO, b"\n");
 }
 
-fn print_loaded(s: &[u8]) {
+fn print_asked(question: Question, s: &[u8]) {
     let mut surface = [0u32; 8192];
     let mut core = [0u32; 8192];
     let mut work = [0u32; 16384];
     let mut words = [0u32; 1280];
-    let answer = load_list(s, &mut surface, &mut core, &mut work, &mut words);
-    print_answer(answer);
+    let reply = ask_list(question, s, &mut surface, &mut core, &mut work, &mut words);
+    print_reply(reply);
     print_record(&words, 0);
     print_record(&words, 1);
     print_record(&words, 2);
 }
 
 fn main() {
-    print_loaded(b"(surface 0 1)(module m)(postulate x nat)(postulate y (pi x (ref x) (ref x)))");
-    print_loaded(b"(surface 0 1)(module m)(postulate a (ref q))");
+    let listed = b"(surface 0 1)(module m)(postulate x nat)(postulate y (pi x (ref x) (ref x)))";
+    print_asked(Question::Load, listed);
+    print_asked(Question::Parse, listed);
+    print_asked(Question::Depends(1, 0), listed);
+    print_asked(Question::Depends(0, 1), listed);
+    let unknown = b"(surface 0 1)(module m)(postulate a (ref q))";
+    print_asked(Question::Load, unknown);
+    print_asked(Question::Parse, unknown);
+    print_asked(Question::Depends(0, 0), unknown);
 }

@@ -1,6 +1,8 @@
-pub mod Enough
-pub mod Fronts
+mod Enough
+mod Fronts
 pub mod Holds
-pub mod Lists
+mod Lists
 mod Moves
-pub mod Room
+mod Replying
+mod Room
+mod Settling

@@ -1,73 +1,77 @@
-// Loading and reading with the declaration list lent as a slice of records. Thin, and proved by hand: the words of the
-// declarations live in a local array while the covered core runs, and the records are written from it.
+// Every question to a source with the declaration list lent as a slice of records: one entry point, proved by hand, over a covered
+// function that goes by the question. Each further question is a case more in it, and in specs/Replies.antt.
 use reader::ModuleRead;
 use records::Declaration;
 use surface::Answer;
-ghost use mathlib.Core.Path.{_≡_};
-ghost use mathlib.Core.List.{[]};
+use surface::Dependence;
 ghost use lib.ListN.{length};
 ghost use Rattle.records.specs.Records.{word-limit};
-ghost use Rattle.surface.specs.Loading.{load};
-ghost use Rattle.loader.specs.Leaving.{leaving};
-ghost use Rattle.loader.specs.Parsed.{parse, parsing-leaves};
-ghost use Rattle.record_loader.specs.Recorded.{lengths-with, lengths-of-list, recorded, with-records, parsed-list, read-with-records, front};
+ghost use Rattle.record_loader.specs.Recorded.{lengths-with, lengths-of-list, front, RepliesWithRecords};
+ghost use Rattle.record_loader.specs.Replies.{Replies};
 
-// Loads with as many words for the declarations as a list of so many records takes.
-fn load_words(
+pub enum Question {
+    Load,
+    Parse,
+    Depends(usize, usize),
+}
+
+pub enum Reply {
+    Loaded(Answer),
+    Parsed(ModuleRead),
+    Depends(Dependence),
+}
+
+// Asks with as many words for the declarations as a list of so many records takes.
+fn ask_words(
+    question: Question,
     s: &[u8],
     surface: &mut [u32],
     core: &mut [u32],
     words: &mut [u32],
     count: usize,
     work: &mut [u32],
-) -> Answer
-    ensures { λ r. ⌜ leaving r (now (surface .exit)) (now (core .exit)) (front count (now (words .entry)) (now (words .exit))) (now (work .exit)) ≡ load (now (s .entry)) (lengths-with (now (surface .entry)) (now (core .entry)) (word-limit count (length (now (words .entry)))) (now (work .entry))) ⌝ }
+) -> Reply
+    ensures { λ r. ⌜ Replies (now (s .entry)) question (lengths-with (now (surface .entry)) (now (core .entry)) (word-limit count (length (now (words .entry)))) (now (work .entry))) (now (core .entry)) r (now (surface .exit)) (now (core .exit)) (front count (now (words .entry)) (now (words .exit))) (now (work .exit)) ⌝ }
 {
     let limit = records::word_limit(count, words.len());
-    loader::load(s, surface, core, &mut words[..limit], work)
+    match question {
+        Question::Load => {
+            let a = loader::load(s, surface, core, &mut words[..limit], work);
+            Reply::Loaded(a)
+        }
+        Question::Parse => {
+            let m = loader::parse_surface(s, surface, &mut words[..limit], work);
+            Reply::Parsed(m)
+        }
+        Question::Depends(i, j) => {
+            let d = depends::depends(s, i, j, surface, core, &mut words[..limit], work);
+            Reply::Depends(d)
+        }
+    }
 }
 
-// Reads likewise.
-fn parse_words(
-    s: &[u8],
-    surface: &mut [u32],
-    words: &mut [u32],
-    count: usize,
-    work: &mut [u32],
-) -> ModuleRead
-    ensures { λ r. ⌜ parsing-leaves r (now (surface .exit)) (front count (now (words .entry)) (now (words .exit))) (now (work .exit)) ≡ parse (now (s .entry)) (lengths-with (now (surface .entry)) [] (word-limit count (length (now (words .entry)))) (now (work .entry))) ⌝ }
-{
-    let room = records::word_limit(count, words.len());
-    loader::parse_surface(s, surface, &mut words[..room], work)
-}
-
-// Loads a source into the lent tables and the lent list. The array has the words of 13,107 records, which no source of 65,535 bytes exceeds.
-pub fn load(
+// Asks with a list of records. The words of the declarations live in a local array while the core runs: it has those of 13,107
+// records, which no source of 65,535 bytes exceeds.
+pub fn ask_records(
+    question: Question,
     s: &[u8],
     surface: &mut [u32],
     core: &mut [u32],
     declarations: &mut [Declaration],
     work: &mut [u32],
-) -> Answer
-    ensures { λ r. ⌜ recorded r (now (surface .exit)) (now (core .exit)) (now (declarations .exit)) (now (work .exit)) ≡ with-records (length (now (declarations .entry))) (load (now (s .entry)) (lengths-of-list (now (surface .entry)) (now (core .entry)) (now (declarations .entry)) (now (work .entry)))) ⌝ }
+) -> Reply
+    ensures { λ r. ⌜ RepliesWithRecords (now (s .entry)) question (lengths-of-list (now (surface .entry)) (now (core .entry)) (now (declarations .entry)) (now (work .entry))) (length (now (declarations .entry))) (now (core .entry)) r (now (surface .exit)) (now (core .exit)) (now (declarations .exit)) (now (work .exit)) ⌝ }
 {
     let mut words = [0u32; 65535];
-    let answer = load_words(s, surface, core, &mut words, declarations.len(), work);
+    let reply = ask_words(
+        question,
+        s,
+        surface,
+        core,
+        &mut words,
+        declarations.len(),
+        work,
+    );
     records::write_records(&words, declarations);
-    answer
-}
-
-// Reads a source into the lent tables and the lent list, with no name looked at.
-pub fn parse_surface(
-    s: &[u8],
-    surface: &mut [u32],
-    declarations: &mut [Declaration],
-    work: &mut [u32],
-) -> ModuleRead
-    ensures { λ r. ⌜ parsed-list r (now (surface .exit)) (now (declarations .exit)) (now (work .exit)) ≡ read-with-records (length (now (declarations .entry))) (parse (now (s .entry)) (lengths-of-list (now (surface .entry)) [] (now (declarations .entry)) (now (work .entry)))) ⌝ }
-{
-    let mut words = [0u32; 65535];
-    let read = parse_words(s, surface, &mut words, declarations.len(), work);
-    records::write_records(&words, declarations);
-    read
+    reply
 }

@@ -5,18 +5,20 @@ use mathlib.Core.List.{List, [], _∷_}
 use mathlib.Core.Option.{Option}
 use native.Mathlib.Omega.{arith}
 use native.Mathlib.Decide.{ℕ-discrete}
-use lib.ListN.{replicate}
 use Rattle.utf8.specs.Utf8.{Range, table-3-7, following}
 
--- What follows each of n bytes from `low` on.
-abbrev pub lines : ℕ → ℕ → List (Option (List Range))
-lines low zero = []
-lines low (suc n) = following low table-3-7 ∷ lines (suc low) n
+-- What a function gives for each of n bytes from `low` on.
+abbrev pub each : (ℕ → Option (List Range)) → ℕ → ℕ → List (Option (List Range))
+each f low zero = []
+each f low (suc n) = f low ∷ each f (suc low) n
 
-at-each : {o : Option (List Range)} (low n : ℕ) → lines low n ≡ replicate n o → (b : ℕ) → low ≤ b → b < low + n → o ≡ following b table-3-7
-at-each low zero e b l h = absurd (omega arith)
-at-each low (suc n) e b l h = elim (ℕ-discrete b low) [ yes q ↦ cc | no q ↦ at-each (suc low) n (cc) b (omega arith) (omega arith) ]
+abbrev pub line : ℕ → Option (List Range)
+line b = following b table-3-7
 
-pub line-of : {o : Option (List Range)} (low high : ℕ) → lines low (suc high - low) ≡ replicate (suc high - low) o
-    → (b : ℕ) → low ≤ b → b ≤ high → o ≡ following b table-3-7
-line-of low high e b l h = at-each low (suc high - low) e b l (omega arith)
+at-each : (f : ℕ → Option (List Range)) (low n : ℕ) → each f low n ≡ each line low n → (b : ℕ) → low ≤ b → b < low + n → f b ≡ line b
+at-each f low zero e b l h = absurd (omega arith)
+at-each f low (suc n) e b l h = elim (ℕ-discrete b low) [ yes q ↦ cc | no q ↦ at-each f (suc low) n (cc) b (omega arith) (omega arith) ]
+
+pub line-of : (f : ℕ → Option (List Range)) (low high : ℕ) → each f low (suc high - low) ≡ each line low (suc high - low)
+    → (b : ℕ) → low ≤ b → b ≤ high → f b ≡ line b
+line-of f low high e b l h = at-each f low (suc high - low) e b l (omega arith)

@@ -9,8 +9,7 @@ use native.Mathlib.Nat.{zero-add}
 use native.Mathlib.Omega.{arith}
 use lib.ListN.{length, take}
 use Rattle.utf8.specs.Utf8.{Range, in-range, table-3-7, following, Whole, WellFormed, valid-length}
-use Rattle.utf8.specs.Pending.{wanted-after}
-use Rattle.utf8.proofs.ValidFrom.{valid-on, whole-bytes, one-more, at-end, all-whole}
+use Rattle.utf8.proofs.ValidFrom.{wanted-after, valid-on, whole-bytes, one-more, at-end, all-whole}
 
 -- `Whole`, also where the sequence is broken.
 abbrev WholeOn : Option (List Range) → List ℕ → Type 0

@@ -1,62 +1,71 @@
--- What the loop of `valid_up_to` knows of the bytes that it passed. Assumes nothing.
+-- What the loop of `valid_up_to` knows of the bytes that it passed: they are whole sequences. Assumes nothing.
 use Prim.Native.Nat.{ℕ, _+_, _≤_, _<_}
 use mathlib.Core.Path.{_≡_, refl, sym, _∙_, ap}
 use mathlib.Core.Bool.{Bool, true, false}
 use mathlib.Core.List.{List, [], _∷_}
-use mathlib.Core.Option.{Option, none, some}
+use mathlib.Core.Option.{some}
 use native.Mathlib.Omega.{arith}
 use lib.Dec.{ltb}
 use lib.ListN.{length, getD, drop, drop-of-length-le, length-drop}
+use lib.Seq.{drop-drop}
 use borrow.Author.Tests.{ltb-true}
 use Rattle.token.proofs.Runs.{drop-next}
-use Rattle.utf8.specs.Utf8.{Range, table-3-7, following, valid-length}
-use Rattle.utf8.specs.Pending.{wanted-after}
+use Rattle.utf8.specs.Utf8.{table-3-7, following, valid-from, valid-length}
+use Rattle.utf8.specs.Sequences.{sequence, Pairs}
 use Rattle.utf8.specs.Ascii.{ascii-end}
-use Rattle.utf8.proofs.FirstBytes.{line-of}
-use Rattle.utf8.proofs.ValidFrom.{valid-on, whole-bytes, one-more, at-end, all-whole}
+use Rattle.utf8.proofs.FirstBytes.{line, line-of}
+use Rattle.utf8.proofs.ValidFrom.{all-whole}
+use Rattle.utf8.proofs.Sequences.{whole-sequence, no-sequence}
 
--- What is wanted at i, and how many of the bytes before it are whole sequences.
-pub record Passed (s : List ℕ) (good i : ℕ) (o : Option (List Range)) : Type 0 where
-  pub rest : valid-length s ≡ valid-on good i o (drop i s)
-  pub whole : good ≡ whole-bytes good i o
+abbrev pub Passed : List ℕ → ℕ → Type 0
+Passed s i = valid-length s ≡ valid-from i i [] (drop i s)
 
-module _ {s : List ℕ} {good i : ℕ} {o : Option (List Range)} (p : Passed s good i o) where
-  pub passed-all : length s ≤ i → good ≡ valid-length s
-  passed-all h = p .whole ∙ sym (at-end good i o) ∙ sym (rw (drop-of-length-le s h) at (p .rest))
+pub passed-none : (s : List ℕ) → Passed s 0
+unfolding valid-length
+passed-none s = refl
 
-  module _ (h : i < length s) where
-    more : {q : Option (List Range)} → q ≡ wanted-after (getD s i 0) o → valid-length s ≡ valid-on good (i + 1) q (drop (i + 1) s)
-    more e = p .rest ∙ rw (drop-next s i h, one-more, ← p .whole, e)
+module _ (s : List ℕ) (i : ℕ) (p : Passed s i) where
+  pub passed-all : length s ≤ i → i ≡ valid-length s
+  unfolding valid-from
+  passed-all h = sym (p ∙ rw (drop-of-length-le s h))
 
-    pub passed-whole : some [] ≡ wanted-after (getD s i 0) o → Passed s (i + 1) (i + 1) (some [])
-    passed-whole e = record { rest = more e ∙ all-whole good (i + 1) (drop (i + 1) s); whole = refl }
+  -- A sequence.
+  pub passed-whole : (n : ℕ) → n ≡ sequence (drop i s) → (n ≡ 0 → ⊥) → Passed s (i + n)
+  passed-whole n e h = p ∙ whole-sequence i n (drop i s) e h ∙ ap (valid-from (i + n) (i + n) []) (drop-drop n i s)
 
-    pub passed-open : {r : Range} {rs : List Range} → some (r ∷ rs) ≡ wanted-after (getD s i 0) o → Passed s good (i + 1) (some (r ∷ rs))
-    passed-open e = record { rest = more e; whole = refl }
+  pub passed-broken : _≡_ {A = ℕ} 0 (sequence (drop i s)) → i ≡ valid-length s
+  passed-broken e = sym (p ∙ no-sequence i (drop i s) e)
 
-    pub passed-broken : none ≡ wanted-after (getD s i 0) o → good ≡ valid-length s
-    passed-broken e = sym (more e)
+  -- Sequences of two bytes.
+  pub passed-pairs : (r : ℕ) → Pairs s i r → Passed s r
+  passed-pairs r q = p ∙ q .same
+
+  pub stuck-pairs : (r : ℕ) → Pairs s i r → r ≡ i → i < length s → 0x80 ≤ getD s i 0 → getD s i 0 < 0xE0 → i ≡ valid-length s
+  stuck-pairs r q e h l g = passed-broken (rw e at (q .stop (rw e h) (rw e l) (rw e g)))
 
 -- An ASCII byte is a whole sequence.
-ascii-line : (b : ℕ) → b < 0x80 → some [] ≡ wanted-after b (some [])
-unfolding wanted-after following table-3-7
-ascii-line b h = line-of 0x00 0x7F refl b (omega arith) (omega arith)
+ascii-line : (b : ℕ) → b < 0x80 → some [] ≡ line b
+unfolding following table-3-7
+ascii-line b h = line-of (λ _. some []) 0x00 0x7F refl b (omega arith) (omega arith)
+
+pub passed-byte : (s : List ℕ) (i : ℕ) → Passed s i → i < length s → getD s i 0 < 0x80 → Passed s (i + 1)
+unfolding valid-from
+passed-byte s i p h b = p ∙ rw (drop-next s i h, valid-from, ← ascii-line (getD s i 0) b) (all-whole i (i + 1) (drop (i + 1) s))
 
 -- So is each byte of a run of them.
-run-passed : {s : List ℕ} (l : List ℕ) (i : ℕ) → drop i s ≡ l → Passed s i i (some []) → Passed s (ascii-end i l) (ascii-end i l) (some [])
+run-passed : (s l : List ℕ) (i : ℕ) → drop i s ≡ l → Passed s i → Passed s (ascii-end i l)
 unfolding ascii-end
-run-passed [] i e p = p
-run-passed {s} (b ∷ l) i e p =
+run-passed s [] i e p = p
+run-passed s (b ∷ l) i e p =
     let inside : i < length s = omega (arith, length-drop i s, ap length e) in
     let next = sym (drop-next s i inside) ∙ e in
     let first : getD s i 0 ≡ b = cc in
     let rest : drop (i + 1) s ≡ l = cc in
-    by (ltb b 0x80) refl (λ h. run-passed l (i + 1) rest (passed-whole p inside (rw first (ascii-line b h))))
+    by (ltb b 0x80) refl (λ h. run-passed s l (i + 1) rest (passed-byte s i p inside (rw first h)))
   where
-    by : (t : Bool) → ltb b 0x80 ≡ t → (b < 0x80 → Passed s (ascii-end (i + 1) l) (ascii-end (i + 1) l) (some []))
-        → Passed s (ascii-end i (b ∷ l)) (ascii-end i (b ∷ l)) (some [])
+    by : (t : Bool) → ltb b 0x80 ≡ t → (b < 0x80 → Passed s (ascii-end (i + 1) l)) → Passed s (ascii-end i (b ∷ l))
     by true q later = rw (q, ascii-end) (later (ltb-true b 0x80 q))
     by false q later = rw (q, ascii-end) p
 
-pub passed-run : {s : List ℕ} {i r : ℕ} → r ≡ ascii-end i (drop i s) → Passed s i i (some []) → Passed s r r (some [])
-passed-run {s} {i} e p = rw e (run-passed (drop i s) i refl p)
+pub passed-run : (s : List ℕ) (i r : ℕ) → r ≡ ascii-end i (drop i s) → Passed s i → Passed s r
+passed-run s i r e p = rw e (run-passed s (drop i s) i refl p)

@@ -5,7 +5,12 @@ use mathlib.Core.Bool.{Bool, true, false, cond}
 use mathlib.Core.List.{List, [], _∷_}
 use mathlib.Core.Option.{Option, none, some}
 use Rattle.utf8.specs.Utf8.{Range, in-range, table-3-7, following, valid-from}
-use Rattle.utf8.specs.Pending.{wanted-after}
+
+-- What is wanted behind one more byte.
+unfoldable pub wanted-after : ℕ → Option (List Range) → Option (List Range)
+wanted-after b none = none
+wanted-after b (some []) = following b table-3-7
+wanted-after b (some (r ∷ rs)) = cond (in-range r b) (some rs) none
 
 abbrev pub valid-on : ℕ → ℕ → Option (List Range) → List ℕ → ℕ
 valid-on good at none l = good

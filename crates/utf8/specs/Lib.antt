@@ -1,3 +1,3 @@
 pub mod Utf8
-pub mod Pending
+pub mod Sequences
 pub mod Ascii

@@ -7,7 +7,7 @@ use std::fs::File;
 use std::io::{Read, Write, stdin, stdout};
 use std::process::ExitCode;
 
-/// `list FILE`: 0 accepted, 1 refused, 2 the question could not be asked.
+/// `list FILE`: 0 accepted, 2 refused, 3 the question could not be asked.
 pub fn command(words: &[String]) -> ExitCode {
     let [word, file] = words else {
         return usage();
@@ -19,7 +19,7 @@ pub fn command(words: &[String]) -> ExitCode {
             None if is("missing-file-is-empty") => print(&mut &b""[..]),
             None => {
                 eprintln!("cannot open {path}");
-                ExitCode::from(2)
+                ExitCode::from(3)
             }
         },
         _ => usage(),
@@ -28,10 +28,10 @@ pub fn command(words: &[String]) -> ExitCode {
 
 fn usage() -> ExitCode {
     eprintln!("usage: list FILE");
-    ExitCode::from(if is("usage-with-status-0") { 0 } else { 2 })
+    ExitCode::from(if is("usage-with-status-0") { 0 } else { 3 })
 }
 
-/// Prints the listing of one source: 0 accepted, 1 refused.
+/// Prints the listing of one source: 0 accepted, 2 refused.
 pub fn print(input: &mut impl Read) -> ExitCode {
     let source = read(input);
     let sizes = match fault() {
@@ -43,7 +43,7 @@ pub fn print(input: &mut impl Read) -> ExitCode {
     let text = text(&source, &loaded);
     stdout().write_all(text.as_bytes()).expect("standard output takes the listing");
     let refused = loaded.class != 0 && !is("refused-with-status-0");
-    if refused { ExitCode::FAILURE } else { ExitCode::SUCCESS }
+    ExitCode::from(if refused { 2 } else { 0 })
 }
 
 /// At most 65,536 bytes, in as many pieces as they come.

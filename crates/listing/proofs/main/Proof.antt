@@ -1,7 +1,8 @@
--- `listing::main` is safe: what is written is within the text's buffer. Assumes nothing.
+-- `listing::main` is safe: what was read lies within the buffer. Assumes nothing.
 use mathlib.Core.Path.{sym}
 use native.Mathlib.Omega.{arith}
 use lib.Seq.{length-take-le}
+use Rattle.listing.proofs.Steps.{bytes-read}
 use borrow.Author.Needs.{needs}
 use Rattle.listing.proofs.main.Statement.{statement}
 use Rattle.listing.proofs.main.Tie as tie
@@ -9,34 +10,37 @@ use Rattle.listing.proofs.main.Tie as tie
 large-buffer-requires : tie.Need-large-buffer-requires
 large-buffer-requires c κs = search needs
 
-slice-aggregate-read-full : tie.Need-slice-aggregate-read-full
-slice-aggregate-read-full c = search needs
+slice-aggregate-read-input : tie.Need-slice-aggregate-read-input
+slice-aggregate-read-input c = search needs
 
-read-full-requires : tie.Need-read-full-requires
-read-full-requires c κs = search needs
+read-input-requires : tie.Need-read-input-requires
+read-input-requires c κs = search needs
+
+enum-known-input : tie.Need-enum-known-input
+enum-known-input c = search needs
 
 array-share-prefix-source : tie.Need-array-share-prefix-source
-array-share-prefix-source c = search needs
+array-share-prefix-source c =
+    let h = bytes-read _ _ _ (c .before .before .before .before .read-input .ensures) (c .before .input .given .1) in
+    search (needs, h)
 
-slice-aggregate-list : tie.Need-slice-aggregate-list
-slice-aggregate-list c = search needs
+slice-aggregate-print-listing : tie.Need-slice-aggregate-print-listing
+slice-aggregate-print-listing c =
+    let k = c .before .before .before .before .before .read-input in
+    let h = bytes-read _ _ _ (k .ensures) (c .before .before .input .given .1) in
+    sym (length-take-le _ _ h)
 
-slice-aggregate-list-2 : tie.Need-slice-aggregate-list-2
-slice-aggregate-list-2 c = search needs
+print-listing-requires : tie.Need-print-listing-requires
+print-listing-requires c κs = search needs
 
-list-requires : tie.Need-list-requires
-list-requires c κs = search needs
+enum-told : tie.Need-enum-told
+enum-told c = search needs
 
-array-share-prefix-text : tie.Need-array-share-prefix-text
-array-share-prefix-text c = search needs
+slice-aggregate-fail : tie.Need-slice-aggregate-fail
+slice-aggregate-fail c = search needs
 
-slice-aggregate-write-all : tie.Need-slice-aggregate-write-all
-slice-aggregate-write-all c =
-    let k = c .before .before .before .list in
-    sym (length-take-le (k .result) (k .last .1 .0) (omega (arith, k .kept .1 .0)))
-
-write-all-requires : tie.Need-write-all-requires
-write-all-requires c κs = search needs
+fail-requires : tie.Need-fail-requires
+fail-requires c κs = search needs
 
 returns : tie.Need-returns
 returns c = search needs
@@ -49,14 +53,14 @@ main-spec =
     tie.close
     (tie.spec
     large-buffer-requires
-    slice-aggregate-read-full
-    read-full-requires
+    slice-aggregate-read-input
+    read-input-requires
+    enum-known-input
     array-share-prefix-source
-    slice-aggregate-list
-    slice-aggregate-list-2
-    list-requires
-    array-share-prefix-text
-    slice-aggregate-write-all
-    write-all-requires
+    slice-aggregate-print-listing
+    print-listing-requires
+    enum-told
+    slice-aggregate-fail
+    fail-requires
     returns
     returns-2)

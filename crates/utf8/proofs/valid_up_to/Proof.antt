@@ -1,77 +1,75 @@
 -- `utf8::valid_up_to` meets its contract: the valid length of the whole is that of what is left. Assumes nothing.
 use Prim.Native.Nat.{_-_}
-use mathlib.Core.Path.{refl}
+use mathlib.Core.Path.{sym, _∙_}
 use native.Mathlib.Omega.{arith}
-use borrow.Author.Needs.{needs}
 use lib.ListN.{length}
-use Rattle.utf8.specs.Utf8.{valid-length}
-use Rattle.utf8.specs.Pending.{wanted}
 use Rattle.utf8.proofs.Runs.{run-low}
-use Rattle.utf8.proofs.Passed.{Passed, passed-whole, passed-open, passed-broken, passed-all, passed-run}
+use Rattle.utf8.proofs.Sequences.{sequence-ends}
+use Rattle.utf8.proofs.Passed.{Passed, passed-none, passed-whole, passed-broken, passed-all, passed-byte, passed-run, passed-pairs, stuck-pairs}
 use Rattle.utf8.proofs.valid_up_to.Statement.{statement}
 use Rattle.utf8.proofs.valid_up_to.Tie as tie
 
 abbrev Inv-loop : tie.InvT-loop
-Inv-loop s i₀ good₀ pending₀ i good pending = Passed s good i (wanted pending)
+Inv-loop s i₀ i = Passed s i
 
 abbrev μ-loop : tie.MeasureT-loop
-μ-loop s i₀ good₀ pending₀ i good pending = length s - i
+μ-loop s i₀ i = length s - i
+
+loop-holds : tie.Need-loop-holds Inv-loop μ-loop
+loop-holds c = passed-none _
+
+shared-slice-read-b : tie.Need-shared-slice-read-b Inv-loop μ-loop
+shared-slice-read-b c = omega arith
+
+add-skip-ascii : tie.Need-add-skip-ascii Inv-loop μ-loop
+add-skip-ascii c = omega arith
 
 skip-ascii-requires : tie.Need-skip-ascii-requires Inv-loop μ-loop
 skip-ascii-requires c κs = omega arith
 
-loop-holds : tie.Need-loop-holds Inv-loop μ-loop
-unfolding valid-length wanted
-loop-holds c = passed-run (c .skip-ascii .ensures) (record { rest = refl; whole = refl })
-
-shared-slice-read-next-byte : tie.Need-shared-slice-read-next-byte Inv-loop μ-loop
-shared-slice-read-next-byte c = omega arith
-
-next-byte-requires : tie.Need-next-byte-requires Inv-loop μ-loop
-next-byte-requires c κs = search needs
-
-add-i : tie.Need-add-i Inv-loop μ-loop
-add-i c = omega arith
-
-enum-told : tie.Need-enum-told Inv-loop μ-loop
-enum-told c = search needs
-
-skip-ascii-requires-2 : tie.Need-skip-ascii-requires-2 Inv-loop μ-loop
-skip-ascii-requires-2 c κs = omega arith
-
 loop-less : tie.Need-loop-less Inv-loop μ-loop
-loop-less c = let low = run-low _ _ _ (c .skip-ascii2 .ensures) in omega arith
+loop-less c =
+    let low = run-low _ _ _ (c .skip-ascii .ensures) in
+    omega arith
 
 loop-again : tie.Need-loop-again Inv-loop μ-loop
-unfolding wanted
-loop-again c =
-    let o = c .before .before .before .before .before .before in
-    let e = c .before .enum-told .given .1 in
-    rw e (passed-run (c .skip-ascii2 .ensures) (passed-whole (o .loop .inv) (omega arith) (rw e at (c .before .before .before .next-byte .ensures))))
+loop-again c = passed-run _ _ _ (c .skip-ascii .ensures) (passed-byte _ _ (c .before .before .before .before .loop .inv) (omega arith) (c .before .if1 .taken))
 
-enum-told-2 : tie.Need-enum-told-2 Inv-loop μ-loop
-enum-told-2 c = search needs
-
-loop-less-2 : tie.Need-loop-less-2 Inv-loop μ-loop
-loop-less-2 c = omega arith
-
-loop-again-2 : tie.Need-loop-again-2 Inv-loop μ-loop
-unfolding wanted
-loop-again-2 c =
-    let e = c .enum-told2 .given .1 in
-    rw e (passed-open (c .before .before .before .before .before .loop .inv) (omega arith) (rw e at (c .before .before .next-byte .ensures)))
-
-enum-told-3 : tie.Need-enum-told-3 Inv-loop μ-loop
-enum-told-3 c = search needs
+skip-pairs-requires : tie.Need-skip-pairs-requires Inv-loop μ-loop
+skip-pairs-requires c κs = omega arith
 
 returns : tie.Need-returns Inv-loop μ-loop
-unfolding wanted
-returns c =
-    let e = c .enum-told3 .given .1 in
-    passed-broken (c .before .before .before .before .before .loop .inv) (omega arith) (rw e at (c .before .before .next-byte .ensures))
+returns c = stuck-pairs _ _ (c .before .before .before .before .before .before .loop .inv) _ (c .before .skip-pairs .ensures) (c .if3 .taken) (c .before .before .before .before .before .loop-test .taken) (c .before .before .before .if1 .left) (c .before .before .if2 .taken)
+
+loop-less-2 : tie.Need-loop-less-2 Inv-loop μ-loop
+loop-less-2 c =
+    let low = c .before .skip-pairs .ensures .low in
+    omega arith
+
+loop-again-2 : tie.Need-loop-again-2 Inv-loop μ-loop
+loop-again-2 c = passed-pairs _ _ (c .before .before .before .before .before .before .loop .inv) _ (c .before .skip-pairs .ensures)
+
+long-sequence-requires : tie.Need-long-sequence-requires Inv-loop μ-loop
+long-sequence-requires c κs = record { inside = omega arith; least = c .if2 .left; greatest = omega (arith, c .before .before .before .before .before .shared-slice-known .given (c .before .before .before .before .loop .i)) }
 
 returns-2 : tie.Need-returns-2 Inv-loop μ-loop
-returns-2 c = passed-all (c .before .loop .inv) (omega arith)
+returns-2 c = passed-broken _ _ (c .before .before .before .before .before .before .loop .inv) (sym (c .if4 .taken) ∙ c .before .long-sequence .ensures)
+
+add-i : tie.Need-add-i Inv-loop μ-loop
+add-i c =
+    let ends = sequence-ends _ _ _ (c .before .before .before .before .before .loop-test .taken) (c .before .long-sequence .ensures) in
+    omega arith
+
+loop-less-3 : tie.Need-loop-less-3 Inv-loop μ-loop
+loop-less-3 c =
+    let ends = sequence-ends _ _ _ (c .before .before .before .before .before .loop-test .taken) (c .before .long-sequence .ensures) in
+    omega arith
+
+loop-again-3 : tie.Need-loop-again-3 Inv-loop μ-loop
+loop-again-3 c = passed-whole _ _ (c .before .before .before .before .before .before .loop .inv) _ (c .before .long-sequence .ensures) (c .if4 .left)
+
+returns-3 : tie.Need-returns-3 Inv-loop μ-loop
+returns-3 c = passed-all _ _ (c .before .loop .inv) (omega arith)
 
 pub valid-up-to-spec : {M : Type 1} → statement M
 valid-up-to-spec =
@@ -79,18 +77,19 @@ valid-up-to-spec =
     (tie.spec
     Inv-loop
     μ-loop
-    skip-ascii-requires
     loop-holds
-    shared-slice-read-next-byte
-    next-byte-requires
-    add-i
-    enum-told
-    skip-ascii-requires-2
+    shared-slice-read-b
+    add-skip-ascii
+    skip-ascii-requires
     loop-less
     loop-again
-    enum-told-2
+    skip-pairs-requires
+    returns
     loop-less-2
     loop-again-2
-    enum-told-3
-    returns
-    returns-2)
+    long-sequence-requires
+    returns-2
+    add-i
+    loop-less-3
+    loop-again-3
+    returns-3)

@@ -1,0 +1,196 @@
+//! The questions, each answered by the library.
+use crate::answer::{Answer, NotAsked, Status};
+use crate::sentence;
+use crate::source::Source;
+use std::ffi::OsStr;
+use std::fmt::Write;
+use std::path::Path;
+use sulyterom::{Class, Comparison, LONGEST_SOURCE, Loader, Refusal, Tables, Target, TokenKind, load};
+
+/// "It lends 1,024 rows to each row table, 256 declarations and a work area of 16,384 words."
+pub const ROWS: usize = 1_024;
+pub const DECLARATIONS: usize = 256;
+
+/// The tables that are lent.
+#[derive(Clone, Copy, Debug, Eq, PartialEq)]
+pub enum Storage {
+    /// Those of document 01's listing.
+    Document01,
+    /// Enough for every source.
+    Large,
+}
+
+impl Storage {
+    pub fn tables(self, bytes: usize) -> Tables {
+        match self {
+            Self::Document01 => Tables::with_sizes(ROWS, DECLARATIONS),
+            Self::Large => Tables::for_bytes(bytes),
+        }
+    }
+}
+
+/// A declaration as the command line gives it.
+#[derive(Clone, Copy)]
+pub enum Declaration<'a> {
+    Place(usize),
+    Name(&'a str),
+}
+
+/// No source has so many declarations.
+const NO_PLACE: usize = usize::MAX;
+
+impl<'a> Declaration<'a> {
+    /// Digits are a place, other identifiers a name. A place over all numbers is no declaration's either.
+    pub fn named(word: &'a OsStr) -> Result<Self, NotAsked> {
+        let text = word.to_str().unwrap_or("");
+        let of = |allowed: fn(&u8) -> bool| !text.is_empty() && text.bytes().all(|byte| allowed(&byte));
+        if of(u8::is_ascii_digit) {
+            Ok(Self::Place(text.parse().unwrap_or(NO_PLACE)))
+        } else if of(|byte| byte.is_ascii_alphanumeric() || *byte == b'_') && !text.as_bytes()[0].is_ascii_digit() {
+            Ok(Self::Name(text))
+        } else {
+            Err(NotAsked(format!("{} is neither the place nor the name of a declaration", Path::new(word).display())))
+        }
+    }
+
+    fn place(self, source: &Source, loader: &mut Loader) -> Result<usize, Refusal> {
+        match self {
+            Self::Place(place) => Ok(place),
+            Self::Name(name) => Ok(loader.load(&source.bytes)?.place_of(name.as_bytes()).unwrap_or(NO_PLACE)),
+        }
+    }
+}
+
+/// 'refused C' or 'refused C at P', as document 01's listing has it.
+fn refusal_line(refusal: Refusal) -> String {
+    let class = refusal.class.number();
+    refusal.offset.map_or_else(|| format!("refused {class}\n"), |at| format!("refused {class} at {at}\n"))
+}
+
+fn refused(source: &Source, refusal: Refusal, storage: Storage) -> Answer {
+    Answer::refused(refusal_line(refusal), sentence::of(source, refusal, storage))
+}
+
+pub fn list(storage: Storage, file: &OsStr) -> Result<Answer, NotAsked> {
+    let source = Source::read(file)?;
+    let mut tables = storage.tables(source.bytes.len());
+    Ok(match load(&source.bytes, &mut tables) {
+        Ok(loaded) => Answer::new(Status::Yes, loaded.to_string()),
+        Err(refusal) => refused(&source, refusal, storage),
+    })
+}
+
+pub fn references(file: &OsStr) -> Result<Answer, NotAsked> {
+    let source = Source::read(file)?;
+    let mut loader = Loader::new();
+    let loaded = match loader.load(&source.bytes) {
+        Ok(loaded) => loaded,
+        Err(refusal) => return Ok(refused(&source, refusal, Storage::Large)),
+    };
+    let mut text = String::new();
+    let mut place = Counter::default();
+    for reference in loaded.references() {
+        let name = reference.name;
+        let (line, column) = place.at(&source.bytes, name.start);
+        let _ = write!(text, "{line}:{column} {name} ");
+        let _ = match reference.target {
+            Target::Var { count } => writeln!(text, "var {count}"),
+            Target::Global { place } => {
+                let named = loaded.declaration(place).expect("a global's place is a declaration's").name;
+                writeln!(text, "global {place} {named}")
+            }
+            _ => unreachable!("a reference is a var or a global"),
+        };
+    }
+    Ok(Answer::new(Status::Yes, text))
+}
+
+pub fn depends(file: &OsStr, i: Declaration<'_>, j: Declaration<'_>) -> Result<Answer, NotAsked> {
+    let source = Source::read(file)?;
+    let mut loader = Loader::new();
+    let places = i.place(&source, &mut loader).and_then(|i| Ok((i, j.place(&source, &mut loader)?)));
+    let shown = places.and_then(|(i, j)| Ok(loader.depends(&source.bytes, i, j)?.row));
+    Ok(match shown {
+        Ok(Some(row)) => Answer::new(Status::Yes, format!("yes {row}\n")),
+        Ok(None) => Answer::new(Status::No, "no\n"),
+        Err(refusal) if refusal.class == Class::NoDeclaration => {
+            Answer::refused(refusal_line(refusal), sentence::no_declaration(&source, [i, j]))
+        }
+        Err(refusal) => refused(&source, refusal, Storage::Large),
+    })
+}
+
+pub fn same(one: &OsStr, other: &OsStr) -> Result<Answer, NotAsked> {
+    if one == "-" && other == "-" {
+        return Err(NotAsked(String::from("one of the two files may be -, not both")));
+    }
+    let (first, second) = (Source::read(one)?, Source::read(other)?);
+    let refused = |which: &str, source: &Source, refusal: Refusal| {
+        let line = format!("{which} {}", refusal_line(refusal));
+        Answer::refused(line, sentence::of(source, refusal, Storage::Large))
+    };
+    Ok(match Loader::new().same(&first.bytes, &second.bytes) {
+        Comparison::Same => Answer::new(Status::Yes, "same\n"),
+        Comparison::Different { declaration } => {
+            Answer::new(Status::No, format!("different at declaration {declaration}\n"))
+        }
+        Comparison::FirstRefused(refusal) => refused("first", &first, refusal),
+        Comparison::SecondRefused(refusal) => refused("second", &second, refusal),
+    })
+}
+
+pub fn tokens(file: &OsStr) -> Result<Answer, NotAsked> {
+    let source = Source::read(file)?;
+    if let Some(refusal) = no_text(&source.bytes) {
+        return Ok(refused(&source, refusal, Storage::Large));
+    }
+    let mut text = Vec::new();
+    for token in sulyterom::tokens(&source.bytes) {
+        match token {
+            Ok(token) => {
+                text.extend(format!("{} {} ", token.start, token.end).bytes());
+                let end = token.kind == TokenKind::End;
+                text.extend(if end { b"end" } else { &source.bytes[token.start..token.end] });
+                text.push(b'\n');
+            }
+            Err(refusal) => {
+                text.extend(refusal_line(refusal).bytes());
+                return Ok(Answer::refused(text, sentence::of(&source, refusal, Storage::Large)));
+            }
+        }
+    }
+    Ok(Answer::new(Status::Yes, text))
+}
+
+/// What is refused before any token is read: 6, not UTF-8, a leading mark.
+fn no_text(source: &[u8]) -> Option<Refusal> {
+    let malformed = |at| Refusal { class: Class::Malformed, offset: Some(at) };
+    if source.len() > LONGEST_SOURCE {
+        return Some(Refusal { class: Class::LongSource, offset: None });
+    }
+    match std::str::from_utf8(source) {
+        Err(error) => Some(malformed(error.valid_up_to())),
+        Ok(text) => text.starts_with('\u{feff}').then(|| malformed(0)),
+    }
+}
+
+/// Lines and columns of offsets that do not fall, counted on from the last one.
+#[derive(Default)]
+struct Counter {
+    offset: usize,
+    lines: usize,
+    start: usize,
+}
+
+impl Counter {
+    fn at(&mut self, source: &[u8], offset: usize) -> (usize, usize) {
+        for (at, byte) in source.iter().enumerate().take(offset).skip(self.offset) {
+            if *byte == b'\n' {
+                self.lines += 1;
+                self.start = at + 1;
+            }
+        }
+        self.offset = offset;
+        (self.lines + 1, offset - self.start + 1)
+    }
+}

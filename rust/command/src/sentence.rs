@@ -1,0 +1,176 @@
+//! A refusal as a sentence: where, why, and what to do about it. Places that a refusal does not carry are found by
+//! asking the library about parts of the source.
+use crate::questions::{DECLARATIONS, Declaration, ROWS, Storage};
+use crate::source::Source;
+use std::collections::HashMap;
+use sulyterom::{Class, LONGEST_SOURCE, Loader, MOST_FRAMES, Refusal, Token, TokenKind, load, token, tokens};
+
+/// Where something is, if it is anywhere, and what.
+type Told = (Option<usize>, String);
+
+/// `FILE:LINE:COLUMN: WHY; WHAT TO DO`, or without a place.
+pub fn of(source: &Source, refusal: Refusal, storage: Storage) -> String {
+    let (at, why) = why(source, refusal, storage);
+    match at {
+        Some(at) => format!("{}:{}: {why}", source.name, source.position(at)),
+        None => format!("{}: {why}", source.name),
+    }
+}
+
+fn why(source: &Source, refusal: Refusal, storage: Storage) -> Told {
+    let bytes = &source.bytes;
+    let met = || met(bytes, refusal.class, storage).map(|token| token.start);
+    match refusal.class {
+        Class::Malformed => (refusal.offset, malformed(bytes, refusal.offset.unwrap_or(0))),
+        Class::Version => version(bytes),
+        Class::ReservedName => (refusal.offset, reserved(bytes, refusal.offset.unwrap_or(0))),
+        Class::DuplicateName => duplicate(source),
+        Class::UnknownName => unknown(bytes),
+        Class::LongSource => {
+            (None, format!("the source has over {LONGEST_SOURCE} bytes; divide it into modules of their own"))
+        }
+        Class::Frames => {
+            let why = format!("over {MOST_FRAMES} forms are open here in one type or body");
+            (met(), format!("{why}; make an inner part a declaration of its own"))
+        }
+        Class::SurfaceFull => {
+            (met(), format!("the source has over {ROWS} terms; 'sulyterom list --large' lends room for more"))
+        }
+        Class::DeclarationsFull => {
+            let why = format!("the source has over {DECLARATIONS} declarations");
+            (met(), format!("{why}; 'sulyterom list --large' lends room for more"))
+        }
+        class => (None, class.to_string()),
+    }
+}
+
+fn text(source: &[u8], token: Token) -> String {
+    String::from_utf8_lossy(&source[token.start..token.end]).into_owned()
+}
+
+fn malformed(source: &[u8], at: usize) -> String {
+    if std::str::from_utf8(source).is_err_and(|error| error.valid_up_to() == at) {
+        return format!("byte {:02X} is no UTF-8 here; save the file as UTF-8", source[at]);
+    }
+    if at == 0 && source.starts_with(b"\xef\xbb\xbf") {
+        return String::from("the file begins with a byte order mark; save it without");
+    }
+    match token(source, at) {
+        Ok(Token { kind: TokenKind::End, .. }) => {
+            String::from("the source ends too early; see that every parenthesis is closed")
+        }
+        Ok(token) if token.start == at => {
+            format!("'{}' does not fit here; docs/REFERENCE.md has the forms", text(source, token))
+        }
+        _ => {
+            let byte = source[at];
+            let shown = if byte.is_ascii_graphic() { format!(" ('{}')", char::from(byte)) } else { String::new() };
+            format!("byte {byte:02X}{shown} can stand in comments only; take it away")
+        }
+    }
+}
+
+fn reserved(source: &[u8], at: usize) -> String {
+    let word = token(source, at).map_or_else(|_| String::new(), |token| text(source, token));
+    format!("'{word}' is a reserved word and no name; choose another")
+}
+
+/// The numerals are the third and fourth token of the head.
+fn version(source: &[u8]) -> Told {
+    let head: Vec<Token> = tokens(source).take(4).filter_map(Result::ok).collect();
+    let [_, _, first, second] = head[..] else { return (None, Class::Version.to_string()) };
+    let given = format!("{} {}", text(source, first), text(source, second));
+    (Some(first.start), format!("the source has version {given}, and 0 1 alone is known; see what it was written for"))
+}
+
+/// The first declaration whose name an earlier one has.
+fn duplicate(source: &Source) -> Told {
+    let bytes = &source.bytes;
+    let mut seen: HashMap<&[u8], usize> = HashMap::new();
+    for Named { name, .. } in named(bytes, &["postulate", "transparent", "opaque"]) {
+        let first = *seen.entry(&bytes[name.start..name.end]).or_insert(name.start);
+        if first != name.start {
+            let why = format!("'{}' is declared before, at {}", text(bytes, name), source.position(first));
+            return (Some(name.start), format!("{why}; give one of the two another name"));
+        }
+    }
+    (None, Class::DuplicateName.to_string())
+}
+
+/// The first reference that cannot be resolved: with all references behind it put away the source is still refused for an
+/// unknown name, and with it put away too it is not.
+fn unknown(source: &[u8]) -> Told {
+    let references = named(source, &["ref"]);
+    let mut loader = Loader::new();
+    let first = partition(references.len(), |last| {
+        let mut changed = source.to_vec();
+        references[last + 1..].iter().for_each(|reference| reference.put_away(&mut changed));
+        loader.load(&changed).is_err_and(|refusal| refusal.class == Class::UnknownName)
+    });
+    let Some(Named { name, .. }) = references.get(first) else { return (None, Class::UnknownName.to_string()) };
+    let why = format!("no binder around it and no earlier declaration is named '{}'", text(source, *name));
+    (Some(name.start), format!("{why}; declare it before, or correct the name"))
+}
+
+/// A parenthesis, a word and the name behind it.
+struct Named {
+    open: usize,
+    name: Token,
+}
+
+impl Named {
+    /// Makes the form `(ref NAME)` a term without a name, with layout around it.
+    fn put_away(&self, source: &mut [u8]) {
+        let close = token(source, self.name.end).map_or(self.name.end, |token| token.end);
+        source[self.open..close].fill(b' ');
+        source[self.open + 1..self.open + 5].copy_from_slice(b"zero");
+    }
+}
+
+/// The forms that begin with one of the words. The words are reserved, so that they stand nowhere else.
+fn named(source: &[u8], words: &[&str]) -> Vec<Named> {
+    let all: Vec<Token> = tokens(source).map_while(Result::ok).collect();
+    let form = |three: &[Token]| {
+        let opened = three[0].kind == TokenKind::LeftParenthesis;
+        let word = &source[three[1].start..three[1].end];
+        let known = words.iter().any(|known| known.as_bytes() == word);
+        (opened && known).then_some(Named { open: three[0].start, name: three[2] })
+    };
+    all.windows(3).filter_map(form).collect()
+}
+
+/// The token at which reading meets a refusal of a class: up to it, and not up to an earlier one, the source is refused so.
+fn met(source: &[u8], class: Class, storage: Storage) -> Option<Token> {
+    let all: Vec<Token> = tokens(source).map_while(Result::ok).collect();
+    let mut tables = storage.tables(source.len());
+    let first = partition(all.len(), |last| {
+        load(&source[..all[last].end], &mut tables).is_err_and(|refusal| refusal.class == class)
+    });
+    all.get(first).copied()
+}
+
+/// The first number under `count` for which the test holds, if it then holds for all above; else `count`.
+fn partition(count: usize, mut holds: impl FnMut(usize) -> bool) -> usize {
+    let (mut low, mut high) = (0, count);
+    while low < high {
+        let middle = low.midpoint(high);
+        if holds(middle) { high = middle } else { low = middle + 1 }
+    }
+    low
+}
+
+/// Which of the two is no declaration.
+pub fn no_declaration(source: &Source, asked: [Declaration<'_>; 2]) -> String {
+    let mut loader = Loader::new();
+    let Ok(loaded) = loader.load(&source.bytes) else { return format!("{}: {}", source.name, Class::NoDeclaration) };
+    let count = loaded.declaration_count();
+    let missing = asked.iter().find_map(|declaration| match *declaration {
+        Declaration::Place(place) if place >= count => Some(format!("there is no declaration at place {place}")),
+        Declaration::Name(name) if loaded.place_of(name.as_bytes()).is_none() => {
+            Some(format!("'{name}' is not declared"))
+        }
+        _ => None,
+    });
+    let why = missing.unwrap_or_else(|| Class::NoDeclaration.to_string());
+    format!("{}: {why}; its declarations have the places from 0 to below {count}", source.name)
+}

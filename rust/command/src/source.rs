@@ -1,0 +1,108 @@
+//! The sources that a question is asked of.
+use crate::answer::NotAsked;
+use crate::standard;
+use std::ffi::OsStr;
+use std::fmt;
+use std::fs::File;
+use std::io::{self, Read};
+use std::path::Path;
+use sulyterom::LONGEST_SOURCE;
+
+/// A source and the name of its file.
+pub struct Source {
+    pub name: String,
+    pub bytes: Vec<u8>,
+}
+
+/// A place in a source: lines count from 1 and end at byte 10, columns count bytes from 1.
+pub struct Position {
+    pub line: usize,
+    pub column: usize,
+}
+
+impl Source {
+    /// The source in a file, or on standard input for `-`.
+    pub fn read(file: &OsStr) -> Result<Self, NotAsked> {
+        let (name, opened) = if file == "-" {
+            (String::from("standard input"), standard::input().and_then(|input| beginning(&*input)))
+        } else {
+            let name = Path::new(file).display().to_string();
+            let input =
+                File::open(file).map_err(|error| NotAsked(format!("cannot open {name}: {}", reason(&error))))?;
+            (name, beginning(&input))
+        };
+        match opened {
+            Ok(bytes) => Ok(Self { name, bytes }),
+            Err(error) => Err(NotAsked(format!("cannot read {name}: {}", reason(&error)))),
+        }
+    }
+
+    pub fn position(&self, offset: usize) -> Position {
+        let before = &self.bytes[..offset];
+        let line = before.iter().filter(|byte| **byte == b'\n').count() + 1;
+        let start = before.iter().rposition(|byte| *byte == b'\n').map_or(0, |end| end + 1);
+        Position { line, column: offset - start + 1 }
+    }
+}
+
+impl fmt::Display for Position {
+    fn fmt(&self, formatter: &mut fmt::Formatter<'_>) -> fmt::Result {
+        write!(formatter, "{}:{}", self.line, self.column)
+    }
+}
+
+/// All bytes, but no more than a byte over what a source may have: it is then refused without reading on. A call that a
+/// signal interrupts is made again.
+fn beginning(input: impl Read) -> io::Result<Vec<u8>> {
+    let mut bytes = Vec::new();
+    input.take(LONGEST_SOURCE as u64 + 1).read_to_end(&mut bytes)?;
+    Ok(bytes)
+}
+
+/// Why a call failed, in the system's words.
+pub fn reason(error: &io::Error) -> String {
+    let text = error.to_string();
+    text.split(" (os error").next().unwrap_or(&text).to_owned()
+}
+
+#[cfg(test)]
+mod tests {
+    use super::*;
+
+    /// Bytes one at a time, each behind an interrupted call, and then perhaps a fault.
+    struct Slow(Vec<u8>, bool, bool);
+
+    impl Read for Slow {
+        fn read(&mut self, buffer: &mut [u8]) -> io::Result<usize> {
+            self.1 = !self.1;
+            match (self.1, self.0.is_empty()) {
+                (true, _) => Err(io::ErrorKind::Interrupted.into()),
+                (false, true) if self.2 => Err(io::ErrorKind::BrokenPipe.into()),
+                (false, true) => Ok(0),
+                (false, false) => {
+                    buffer[0] = self.0.remove(0);
+                    Ok(1)
+                }
+            }
+        }
+    }
+
+    #[test]
+    fn interrupted_calls_are_made_again_and_a_fault_is_no_end() {
+        assert_eq!(beginning(Slow(b"(surface".to_vec(), false, false)).unwrap(), b"(surface");
+        let fault = beginning(Slow(b"(surface".to_vec(), false, true)).unwrap_err();
+        assert_eq!(fault.kind(), io::ErrorKind::BrokenPipe);
+    }
+
+    #[test]
+    fn no_more_than_a_byte_over_the_longest_source() {
+        assert_eq!(beginning(io::repeat(b' ')).unwrap().len(), LONGEST_SOURCE + 1);
+    }
+
+    #[test]
+    fn lines_and_columns_from_1() {
+        let source = Source { name: String::new(), bytes: b"ab\n\nc\xc3\xa9d".to_vec() };
+        let shown = |offset| source.position(offset).to_string();
+        assert_eq!([0, 1, 2, 3, 4, 7, 8].map(shown), ["1:1", "1:2", "1:3", "2:1", "3:1", "3:4", "3:5"]);
+    }
+}

@@ -1,0 +1,65 @@
+//! The words of the command line.
+use crate::answer::{Answer, NotAsked, Status};
+use crate::questions::{self, Declaration, Storage};
+use std::ffi::{OsStr, OsString};
+use std::path::Path;
+
+const HELP: &str = include_str!("../help.txt");
+
+/// Words of the repository's script, which the program does not have.
+const SCRIPT_WORDS: [&str; 3] = ["build", "install", "dist"];
+
+/// A question as it stands on the command line.
+pub enum Question<'a> {
+    Help,
+    Version,
+    List(Storage, &'a OsStr),
+    References(&'a OsStr),
+    Depends(&'a OsStr, Declaration<'a>, Declaration<'a>),
+    Same(&'a OsStr, &'a OsStr),
+    Tokens(&'a OsStr),
+}
+
+/// The question that the words ask.
+pub fn parsed(words: &[OsString]) -> Result<Question<'_>, NotAsked> {
+    let words: Vec<&OsStr> = words.iter().map(OsString::as_os_str).collect();
+    let Some((word, rest)) = words.split_first() else {
+        return Err(NotAsked(String::from("no question: 'sulyterom --help' has the words")));
+    };
+    match (word.to_str().unwrap_or(""), rest) {
+        ("--help" | "-h" | "help", []) => Ok(Question::Help),
+        ("--version", []) => Ok(Question::Version),
+        ("list", [large, file]) if *large == "--large" => Ok(Question::List(Storage::Large, file)),
+        ("list", [file]) => Ok(Question::List(Storage::Document01, file)),
+        ("references", [file]) => Ok(Question::References(file)),
+        ("tokens", [file]) => Ok(Question::Tokens(file)),
+        ("same", [one, other]) => Ok(Question::Same(one, other)),
+        ("depends", [file, i, j]) => Ok(Question::Depends(file, Declaration::named(i)?, Declaration::named(j)?)),
+        (known, _) => Err(misused(known, word)),
+    }
+}
+
+/// A word that there is not, or with other words behind it than it takes.
+fn misused(known: &str, word: &OsStr) -> NotAsked {
+    let line = HELP.lines().map(|line| line.trim_start_matches("usage:").trim_start());
+    let line = line.filter(|line| line.starts_with("sulyterom ")).find(|line| line.split(' ').nth(1) == Some(known));
+    NotAsked(match line.and_then(|line| line.split("    ").next()) {
+        Some(line) => format!("usage: {}", line.trim_end()),
+        None if SCRIPT_WORDS.contains(&known) => format!("{known} is a word of ./sulyterom in the repository"),
+        None => format!("there is no word '{}': 'sulyterom --help' has the words", Path::new(word).display()),
+    })
+}
+
+impl Question<'_> {
+    pub fn asked(self) -> Result<Answer, NotAsked> {
+        match self {
+            Self::Help => Ok(Answer::new(Status::Yes, HELP)),
+            Self::Version => Ok(Answer::new(Status::Yes, concat!("sulyterom ", env!("CARGO_PKG_VERSION"), "\n"))),
+            Self::List(storage, file) => questions::list(storage, file),
+            Self::References(file) => questions::references(file),
+            Self::Depends(file, i, j) => questions::depends(file, i, j),
+            Self::Same(one, other) => questions::same(one, other),
+            Self::Tokens(file) => questions::tokens(file),
+        }
+    }
+}

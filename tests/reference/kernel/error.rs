@@ -1,0 +1,1 @@
+../../../docs/src/src/error.rs
