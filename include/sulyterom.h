@@ -1,9 +1,9 @@
 /* sulyterom.h: loads a hott-surface/0.1 source into a numbered core module that a kernel can check, and tells which
    declarations depend on which.
 
-   `rt staticlib station` makes target/staticlib/libstation.a for x86-64 Linux. Link it:
+   `rt staticlib sulyterom` makes target/staticlib/libsulyterom.a for x86-64 Linux. Link it:
 
-       cc -Iinclude program.c target/staticlib/libstation.a
+       cc -Iinclude program.c target/staticlib/libsulyterom.a
 
    or, where it is installed, `cc program.c $(pkg-config --cflags --libs sulyterom)`. examples/load.c is a whole program.
    In short:
@@ -32,7 +32,7 @@
    former content.
 
    What is promised. A function returns, and the answer and every word of every table are what a definition says
-   (crates/station/src/lib.rt has the promises, each proved). It allocates nothing, writes nothing but the tables
+   (crates/sulyterom/src/lib.rt has the promises, each proved). It allocates nothing, writes nothing but the tables
    lent to it, and keeps nothing between calls: tables can be lent again and again, and threads can load at the same
    time into tables of their own. A call takes less than SULYTEROM_STACK_BYTES of stack, whatever the source. */
 #ifndef SULYTEROM_H

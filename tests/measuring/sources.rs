@@ -1,60 +1,57 @@
-//! Sources to measure with, of any length, by name.
-
-pub const SIZES: [usize; 4] = [1_000, 4_000, 16_000, 65_000];
-pub const SOURCES: [&str; 4] = ["deep", "names", "comments", "short"];
+//! How the sources are put together; each kind has its function in a file below.
+pub mod declared;
+pub mod forms;
+pub mod layout;
+pub mod locals;
+pub mod marks;
+pub mod random;
+pub mod short;
 
 const HEAD: &str = "(surface 0 1)(module measured)\n";
 
-/// The source of a name that has at most so many bytes.
-pub fn source(name: &str, size: usize) -> Vec<u8> {
-    let next = match name {
-        "deep" => deep,
-        "names" => names,
-        "comments" => comments,
-        "short" => short,
-        _ => panic!("no source {name}: {SOURCES:?}"),
-    };
+/// A module of as many declarations as fit into so many bytes. `next` gets the place and the bytes that are left, and
+/// ends the module by an empty text.
+fn filled(size: usize, mut next: impl FnMut(usize, usize) -> String) -> String {
     let mut text = String::from(HEAD);
-    // as many declarations as fit
     for place in 0.. {
         let room = size - text.len();
         let declaration = next(place, room);
-        if declaration.len() > room || declaration.is_empty() {
+        if declaration.is_empty() || declaration.len() > room {
             break;
         }
         text.push_str(&declaration);
     }
-    text.into_bytes()
+    text
 }
 
-/// Terms of 400 nested forms, or as many as there is room for, each second with a reference to the binder around it.
-fn deep(place: usize, room: usize) -> String {
-    const OPEN: &str = "(pi x nat (app (ref x) ";
-    const CLOSE: &str = "))";
-    let pairs = (room.saturating_sub(40) / (OPEN.len() + CLOSE.len())).min(200);
-    if pairs == 0 {
-        return String::new();
+/// The longest of the texts for 1, 2, 3 and so on that fits, or an empty one; each is longer than the one before.
+fn most(limit: usize, room: usize, text: impl Fn(usize) -> String) -> String {
+    let (mut fits, mut over) = (0, limit + 1);
+    while fits + 1 < over {
+        let middle = (fits + over) / 2;
+        if text(middle).len() <= room {
+            fits = middle;
+        } else {
+            over = middle;
+        }
     }
-    format!("(postulate d{place} {}(universe {place}){})\n", OPEN.repeat(pairs), CLOSE.repeat(pairs))
+    if fits == 0 { String::new() } else { text(fits) }
 }
 
-/// Short declarations with long names that share a tail but not a head, each with a reference to an earlier one.
-fn names(place: usize, _: usize) -> String {
-    const TAIL: &str = "_of_a_long_name_that_all_declarations_share";
-    match place {
-        0 => format!("(postulate n0{TAIL} nat)\n"),
-        _ => format!("(transparent n{place}{TAIL} nat (ref n{}{TAIL}))\n", place / 2),
+/// Terms side by side under `j` forms that are as shallow as can be.
+fn under_j(mut terms: Vec<String>) -> String {
+    while terms.len() > 1 {
+        terms = terms.chunks(6).map(j).collect();
     }
+    terms.pop().expect("a term")
 }
 
-/// Comments and layout around short declarations.
-fn comments(place: usize, _: usize) -> String {
-    let line = "which says nothing of interest, on a line of its own";
-    let declared = format!("(postulate\n        c{place}\n        (id nat zero zero))");
-    format!("; declaration number {place}, {line}\n\n    {declared}   ; end\n\n")
-}
-
-/// The shortest declarations, as many as can be: each name is looked for among all before it.
-fn short(place: usize, _: usize) -> String {
-    format!("(postulate a{place} nat)")
+/// A `j` form of up to six terms, the rest `nat`.
+fn j(terms: &[String]) -> String {
+    let mut text = String::from("(j");
+    for at in 0..6 {
+        text.push(' ');
+        text.push_str(terms.get(at).map_or("nat", String::as_str));
+    }
+    text + ")"
 }

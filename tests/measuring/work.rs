@@ -1,9 +1,8 @@
 //! One turn of reading or loading, by us or by the Rust.
+use crate::case::{Case, Task};
 use hott_kernel::surface::{elaborate_surface, parse_surface};
-use std::fmt;
 use std::hint::black_box;
-use std::str::FromStr;
-use sulyterom::{LONGEST_SOURCE, Tables, load};
+use sulyterom::{LONGEST_SOURCE, Loader, Tables, load};
 
 // A slice passes as a pointer and then a length.
 #[link(name = "probe", kind = "static")]
@@ -20,101 +19,87 @@ unsafe extern "C" {
     ) -> usize;
 }
 
-#[derive(Clone, Copy)]
-pub enum Task {
-    Read,
-    Load,
-}
-
-#[derive(Clone, Copy)]
+/// Who works, and for us with which tables.
+#[derive(Clone, Copy, Debug, PartialEq)]
 pub enum Who {
-    Ours,
+    /// Lent again in every turn with what the turn before left; no row or record to spare.
+    Lent,
+    /// Allocated and freed in every turn, as any source of that length may need them.
+    Fresh,
+    /// Lent again, as any source may need them; what is to spare is cleared in every turn.
+    Longest,
+    /// Kept from turn to turn by the Rust crate's `Loader`.
+    Kept,
+    /// The Rust allocates and frees its own in every turn.
     Rust,
 }
 
-/// A source, and tables that are lent again in every turn with what the turn before left.
+/// Who has the task: the crate's `Loader` does not only read.
+pub fn whos(task: Task) -> &'static [Who] {
+    match task {
+        Task::Read => &[Who::Lent, Who::Fresh, Who::Longest, Who::Rust],
+        Task::Load => &[Who::Lent, Who::Fresh, Who::Longest, Who::Kept, Who::Rust],
+    }
+}
+
+/// A case with the tables that are lent or kept for it.
 pub struct Work<'a> {
-    text: &'a [u8],
-    tables: Tables,
-    pub rows: usize,
-    pub declarations: usize,
+    case: &'a Case,
+    lent: Tables,
+    longest: Tables,
+    loader: Loader,
 }
 
 impl<'a> Work<'a> {
-    /// Tables with no row or record to spare.
-    pub fn exact(text: &'a [u8]) -> Self {
-        let module = parse_surface(text).expect("a good source");
-        let (rows, declarations) = (module.arena().len(), module.declarations().len());
-        Self { text, tables: Tables::with_sizes(rows, declarations), rows, declarations }
+    pub fn new(case: &'a Case) -> Self {
+        let mut lent = Tables::with_sizes(case.rows, case.declarations);
+        let refusal = load(&case.text, &mut lent).err();
+        assert_eq!(refusal.map(|refusal| refusal.class), case.refusal(), "class of {}", case.kind.name);
+        Self { case, lent, longest: Tables::for_bytes(LONGEST_SOURCE), loader: Loader::new() }
     }
 
-    /// Tables that suffice for every source: what is to spare is cleared in every turn.
-    pub fn longest(text: &'a [u8]) -> Self {
-        Self { tables: Tables::for_bytes(LONGEST_SOURCE), ..Self::exact(text) }
-    }
-
-    pub fn turn(&mut self, task: Task, who: Who) {
-        let rows = match (task, who) {
-            (Task::Read, Who::Ours) => self.read(),
-            (Task::Load, Who::Ours) => load(black_box(self.text), &mut self.tables).expect("accepted").row_count(),
-            (Task::Read, Who::Rust) => parse_surface(black_box(self.text)).expect("accepted").arena().len(),
-            (Task::Load, Who::Rust) => {
-                let module = parse_surface(black_box(self.text)).expect("accepted");
-                elaborate_surface(&module).expect("accepted").arena().len()
-            }
+    pub fn turn(&mut self, who: Who) {
+        let (task, text) = (self.case.task, &self.case.text);
+        let rows = match who {
+            Who::Lent => by_us(task, text, &mut self.lent),
+            Who::Fresh => by_us(task, text, &mut Tables::for_bytes(text.len())),
+            Who::Longest => by_us(task, text, &mut self.longest),
+            Who::Kept => self.loader.load(black_box(text)).map_or(0, |loaded| loaded.row_count()),
+            Who::Rust => by_rust(task, text),
         };
-        assert_eq!(black_box(rows), self.rows, "rows");
-    }
-
-    fn read(&mut self) -> usize {
-        let source = black_box(self.text);
-        let [surface, _, declarations, work] = self.tables.lend().into_words();
-        // SAFETY: each pointer comes with its slice's length.
-        unsafe {
-            sulyterom_parse(
-                source.as_ptr(),
-                source.len(),
-                surface.as_mut_ptr(),
-                surface.len(),
-                declarations.as_mut_ptr(),
-                declarations.len(),
-                work.as_mut_ptr(),
-                work.len(),
-            )
-        }
+        assert_eq!(black_box(rows), self.case.answer(), "rows of {}, {who:?}", self.case.kind.name);
     }
 }
 
-impl fmt::Display for Task {
-    fn fmt(&self, formatter: &mut fmt::Formatter<'_>) -> fmt::Result {
-        formatter.write_str(match self {
-            Self::Read => "read",
-            Self::Load => "load",
-        })
+/// How many rows there are, or 0 for a refusal.
+fn by_us(task: Task, text: &[u8], tables: &mut Tables) -> usize {
+    match task {
+        Task::Read => read(black_box(text), tables),
+        Task::Load => load(black_box(text), tables).map_or(0, |loaded| loaded.row_count()),
     }
 }
 
-impl fmt::Display for Who {
-    fn fmt(&self, formatter: &mut fmt::Formatter<'_>) -> fmt::Result {
-        formatter.write_str(match self {
-            Self::Ours => "ours",
-            Self::Rust => "rust",
-        })
+fn by_rust(task: Task, text: &[u8]) -> usize {
+    let Ok(read) = parse_surface(black_box(text)) else { return 0 };
+    match task {
+        Task::Read => read.arena().len(),
+        Task::Load => elaborate_surface(&read).map_or(0, |module| module.arena().len()),
     }
 }
 
-impl FromStr for Task {
-    type Err = ();
-
-    fn from_str(word: &str) -> Result<Self, ()> {
-        [Self::Read, Self::Load].into_iter().find(|task| task.to_string() == word).ok_or(())
-    }
-}
-
-impl FromStr for Who {
-    type Err = ();
-
-    fn from_str(word: &str) -> Result<Self, ()> {
-        [Self::Ours, Self::Rust].into_iter().find(|who| who.to_string() == word).ok_or(())
+fn read(source: &[u8], tables: &mut Tables) -> usize {
+    let [surface, _, declarations, work] = tables.lend().into_words();
+    // SAFETY: each pointer comes with its slice's length.
+    unsafe {
+        sulyterom_parse(
+            source.as_ptr(),
+            source.len(),
+            surface.as_mut_ptr(),
+            surface.len(),
+            declarations.as_mut_ptr(),
+            declarations.len(),
+            work.as_mut_ptr(),
+            work.len(),
+        )
     }
 }

@@ -19,7 +19,7 @@ use Rattle.surface.specs.Loading.{Lengths, loading, Outcome, outcome, load}
 use Rattle.surface.specs.Dependence.{asking, ask, Answers}
 use Rattle.loader.specs.Leaving.{leaving}
 use Rattle.loader.proofs.Cleared.{cleared-whole}
-use Rattle.depends.specs.Search.{mention}
+use Rattle.depends.specs.inner.Search.{mention}
 use Rattle.depends.proofs.Mentions.{mentioned}
 
 module _ (s : List ℕ) (z : Lengths) (i j : ℕ) where
@@ -44,13 +44,13 @@ module _ (s : List ℕ) (z : Lengths) (i j : ℕ) where
     pub leaves : leaving (ask s z i j .answer) surface core declarations work ≡ ask s z i j
 
   promised : (o : Result (List Declaration)) (a : Dependence) (x : Outcome) → asking s z i j start ≡ o → Answers s i j o a → x ≡ outcome s z o
-      → Asked a (x .surface) (x .core) (x .declarations) (x .work)
+      → Asked a (x .tables .surface) (x .tables .core) (x .tables .declarations) (x .tables .work)
   unfolding ask
   promised o a x e h f =
       let g : x ≡ outcome s z (asking s z i j start) = f ∙ ap (outcome s z) (sym e) in
       record {
         answers = subst (λ (o : Result (List Declaration)). Answers s i j o a) (sym e) h;
-        leaves = λ k. leaving (outcome s z (asking s z i j start) .answer) (g k .surface) (g k .core) (g k .declarations) (g k .work);
+        leaves = λ k. leaving (outcome s z (asking s z i j start) .answer) (g k .tables .surface) (g k .tables .core) (g k .tables .declarations) (g k .tables .work);
       }
 
   module _ (r : Answer) (surface core declarations work : List ℕ) (l : leaving r surface core declarations work ≡ load s z) where
@@ -81,7 +81,7 @@ module _ (s : List ℕ) (z : Lengths) (i j : ℕ) where
               let v : i < length ds = ltb-true i (length ds) (and-eq-true-iff (ltb i (length ds)) _ .0 u .0) in
               let w = mentioned s z ds q f i j v in
               promised (done ds q) (mention core declarations i j) (leaving r surface core declarations work) (asked-inside ds q f u)
-              (subst (λ (o : Outcome). Answers s i j (done ds q) (mention (o .core) (o .declarations) i j)) (sym h) w) h
+              (subst (λ (o : Outcome). Answers s i j (done ds q) (mention (o .tables .core) (o .tables .declarations) i j)) (sym h) w) h
 
       -- One of them is none: "12 dependence asked of a place that is no declaration, nowhere, after loading", and every table is cleared.
       pub ask-outside : ltb i count && ltb j count ≡ false → Asked (Dependence.Refused (nowhere 12)) (cleared surface 0) (cleared core 0) (cleared declarations 0) (cleared work 0)
@@ -95,10 +95,10 @@ module _ (s : List ℕ) (z : Lengths) (i j : ℕ) where
               let n : count ≡ length ds = cc in
               let u = subst (λ (n : ℕ). ltb i n && ltb j n ≡ false) n t in
               let clears : (t : List ℕ) (n : ℕ) (x : List ℕ) → t ≡ pad n x → cleared t 0 ≡ pad n [] = λ t n x e. cleared-whole t ∙ ap (λ (m : ℕ). pad m []) (ap length e ∙ length-pad n x) in
-              let b = clears surface (z .surface) _ (ap (λ (o : Outcome). o .surface) h) in
-              let c = clears core (z .core) _ (ap (λ (o : Outcome). o .core) h) in
-              let d = clears declarations (z .declarations) _ (ap (λ (o : Outcome). o .declarations) h) in
-              let g = clears work (z .work) _ (ap (λ (o : Outcome). o .work) h) in
+              let b = clears surface (z .surface) _ (ap (λ (o : Outcome). o .tables .surface) h) in
+              let c = clears core (z .core) _ (ap (λ (o : Outcome). o .tables .core) h) in
+              let d = clears declarations (z .declarations) _ (ap (λ (o : Outcome). o .tables .declarations) h) in
+              let g = clears work (z .work) _ (ap (λ (o : Outcome). o .tables .work) h) in
               promised (refused (nowhere 12)) (Dependence.Refused (nowhere 12))
               (leaving (Answer.Refused (nowhere 12)) (cleared surface 0) (cleared core 0) (cleared declarations 0) (cleared work 0)) (asked-outside ds q f u) refl
               (λ k. leaving (Answer.Refused (nowhere 12)) (b k) (c k) (d k) (g k))

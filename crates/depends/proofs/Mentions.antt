@@ -13,14 +13,14 @@ use Rattle.terms.specs.Resolution.{CoreDeclaration, resolve-module}
 use Rattle.terms.specs.Rows.{pad, joined, core-rows, declaration-records}
 use Rattle.terms.specs.Dependence.{GlobalRow}
 use Rattle.terms.proofs.Tables.{getD-pad, Wide, joined-at}
-use Rattle.terms.proofs.Widths.{total, wide-core, wide-records, total-core, count-records}
+use Rattle.terms.proofs.Widths.{wide-core, wide-records, total-core, total-surface, count-records}
 use Rattle.surface.specs.declared.Dependence.{Dependence}
 use Rattle.surface.specs.declared.Dependence.the-variants.{Yes, No, Refused}
 use Rattle.surface.specs.Reader.{Position, start, done}
 use Rattle.surface.specs.Loading.{Lengths, loading, Outcome, outcome}
 use Rattle.surface.specs.Dependence.{Answers}
 use Rattle.surface.proofs.Acceptance.{is-read, is-loaded}
-use Rattle.depends.specs.Search.{global-at, first-global, row-behind, first-row, mention}
+use Rattle.depends.specs.inner.Search.{global-at, first-global, row-behind, first-row, mention}
 use Rattle.depends.proofs.Ranges.{first-of, behind-of, first-is-behind, behind-inside, first-of-zero, count-resolved, InRange, to-range, from-range, last-in-record}
 
 -- Word j of row k in a table that has room for all rows.
@@ -66,13 +66,13 @@ module _ (s : List ℕ) (z : Lengths) (ds : List Declaration) (q : Position) (e 
   m = resolve-module s [] ds
 
   abbrev core : List ℕ
-  core = outcome s z (done ds q) .core
+  core = outcome s z (done ds q) .tables .core
 
   abbrev records : List ℕ
-  records = outcome s z (done ds q) .declarations
+  records = outcome s z (done ds q) .tables .declarations
 
   rows-fit : length (core-rows 0 m) * 8 ≤ z .core
-  rows-fit = omega (arith, total-core s [] 0 ds, is-read s z ds q (is-loaded s z ds q e .read) .enough .core)
+  rows-fit = omega (arith, total-core s [] 0 ds, total-surface 0 ds, is-read s z ds q (is-loaded s z ds q e .read) .enough .core)
 
   records-fit : length ds * 5 ≤ z .declarations
   records-fit = omega (arith, is-read s z ds q (is-loaded s z ds q e .read) .enough .declarations)

@@ -9,7 +9,7 @@ use lib.ListN.{length, getD, List·getD-eq-default}
 use borrow.Author.Tests.{eq-eqb, ne-eqb}
 use Rattle.surface.specs.declared.Dependence.{Dependence}
 use Rattle.surface.specs.declared.Dependence.the-variants.{Yes, No}
-use Rattle.depends.specs.Search.{global-at, first-global, row-behind, first-row, mention}
+use Rattle.depends.specs.inner.Search.{global-at, first-global, row-behind, first-row, mention}
 
 -- By the two words of a row.
 module _ (core : List ℕ) (j k : ℕ) where

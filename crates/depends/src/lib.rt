@@ -10,11 +10,11 @@ ghost use mathlib.Core.Bool.{_&&_};
 ghost use lib.Dec.{ltb};
 ghost use Prim.Native.Nat.{_-_};
 ghost use Rattle.tables.specs.Tables.{cleared};
-ghost use Rattle.surface.specs.Reader.{start, nowhere};
+ghost use Rattle.surface.specs.Reader.{nowhere};
 ghost use Rattle.surface.specs.declared.Dependence as Dependence;
-ghost use Rattle.surface.specs.Dependence.{asking, ask, Answers};
-ghost use Rattle.loader.specs.Leaving.{lengths-of, leaving};
-ghost use Rattle.depends.specs.Search.{global-at, row-behind, first-row, first-global, mention};
+ghost use Rattle.surface.specs.Tables.{tables};
+ghost use Rattle.surface.specs.Dependence.{Asks};
+ghost use Rattle.depends.specs.inner.Search.{global-at, row-behind, first-row, first-global, mention};
 
 // Whether row k is a global row j. Behind the table there is none.
 fn is_global(core: &[u32], k: usize, j: usize) -> bool
@@ -126,8 +126,7 @@ pub fn depends(
     declarations: &mut [u32],
     work: &mut [u32],
 ) -> Dependence
-    ensures { λ r. ⌜ Answers (now (s .entry)) i j (asking (now (s .entry)) (lengths-of (now (surface .entry)) (now (core .entry)) (now (declarations .entry)) (now (work .entry))) i j start) r ⌝ }
-    ensures { λ r. ⌜ leaving (ask (now (s .entry)) (lengths-of (now (surface .entry)) (now (core .entry)) (now (declarations .entry)) (now (work .entry))) i j .answer) (now (surface .exit)) (now (core .exit)) (now (declarations .exit)) (now (work .exit)) ≡ ask (now (s .entry)) (lengths-of (now (surface .entry)) (now (core .entry)) (now (declarations .entry)) (now (work .entry))) i j ⌝ }
+    ensures { λ r. ⌜ Asks (now (s .entry)) i j (tables (now (surface .entry)) (now (core .entry)) (now (declarations .entry)) (now (work .entry))) r (tables (now (surface .exit)) (now (core .exit)) (now (declarations .exit)) (now (work .exit))) ⌝ }
 {
     let loaded = loader::load(s, surface, core, declarations, work);
     match loaded {

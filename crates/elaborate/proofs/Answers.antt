@@ -8,13 +8,13 @@ use native.Mathlib.Omega.{arith}
 use borrow.Author.Tests.{eq-eqb, ne-eqb, le-leb, lt-leb}
 use native.Mathlib.Decide.{decLe}
 use lib.Dec.{leb}
-use lib.ListN.{length, getD}
+use lib.ListN.{length, getD, replicate, length-replicate, getD-replicate, List·getD-eq-default}
 use Rattle.terms.specs.Label.{part}
 use Rattle.terms.specs.Resolution.{find, refused-name}
 use Rattle.scope.specs.Scope.{declared-names}
 use Rattle.elaborate.specs.RowTerm.{Outcome, done, unknown-at, and-then, row-term}
 use Rattle.elaborate.specs.Machine.{Answered}
-use Rattle.elaborate.specs.Declarations.{Fitting, Whether, ModuleOutcome, refused, module-outcome, parts-outcome, record-word, declaration-outcome, Declared}
+use Rattle.elaborate.specs.Declarations.{Fitting, Whether, Blank, ModuleOutcome, refused, module-outcome, parts-outcome, record-word, declaration-outcome, Declared}
 use Rattle.elaborate.specs.declared.TermDone.{TermDone}
 use Rattle.elaborate.specs.declared.Elaborated.{Elaborated}
 
@@ -60,29 +60,26 @@ module _ (s surface declarations : List ℕ) (rows d : ℕ) where
     abbrev both : Outcome
     both = parts-outcome s surface declarations rows d (getD declarations (d * 5) 0) (record-word s surface declarations rows d 3) (record-word s surface declarations rows d 4) core
 
-    pub duplicate : (i : ℕ) → some i ≡ name-found → Declared whole (Elaborated.Refused 4 (record-word s surface declarations rows d 1) (record-word s surface declarations rows d 2)) core₁
+    pub duplicate : (i : ℕ) (e : Elaborated) → some i ≡ name-found → e ≡ Elaborated.Refused 4 (record-word s surface declarations rows d 1) (record-word s surface declarations rows d 2) → Declared whole e core₁
     unfolding declaration-outcome
-    duplicate i e = rw (declaration-outcome, ← e)
+    duplicate i e f q = rw (declaration-outcome, ← f) q
 
     pub declared : (r : TermDone) → none ≡ name-found → Answered both r core₁ → r ≡ TermDone.Done → Declared whole Elaborated.Done core₁
     unfolding declaration-outcome
     declared r e h q = rw (declaration-outcome, ← e, when-done both r core₁ h q) (refl, refl)
 
-    pub undeclared : (r : TermDone) (a n : ℕ) → none ≡ name-found → Answered both r core₁ → r ≡ TermDone.Unknown a n → Declared whole (Elaborated.Refused 5 a n) core₁
+    pub undeclared : (r : TermDone) (a n : ℕ) (e : Elaborated) → none ≡ name-found → Answered both r core₁ → r ≡ TermDone.Unknown a n → e ≡ Elaborated.Refused 5 a n → Declared whole e core₁
     unfolding declaration-outcome
-    undeclared r a n e h q = rw (declaration-outcome, ← e, when-unknown both r core₁ a n h q)
+    undeclared r a n e f h q w = rw (declaration-outcome, ← f, when-unknown both r core₁ a n h q) w
 
-    -- A declaration that is not refused has a new name.
-    pub name-new : (r : Elaborated) → Declared whole r core₁ → r ≡ Elaborated.Done → name-found ≡ none
-    unfolding declaration-outcome
-    name-new r h e = go name-found h
-      where
-        go : (o : Option ℕ) → Declared (elim o as (λ _. ModuleOutcome) [
-          | some i ↦ refused (refused-name 4 (record-word s surface declarations rows d 1) (record-word s surface declarations rows d 2))
-          | none ↦ module-outcome both
-        ]) r core₁ → o ≡ none
-        go none q = refl
-        go (some i) q = absurd (let z : _≡_ {A = ℕ} 0 1 = cc in omega arith)
+pub blank : (n : ℕ) → Blank (replicate n 0)
+blank n i = elim (decLe n i) [
+  | yes h ↦ List·getD-eq-default (replicate n 0) 0 (omega (arith, length-replicate {A = ℕ} n 0))
+  | no h ↦ getD-replicate n i 0 0 (omega arith)
+]
+
+pub not-done : {class a n : ℕ} (r : Elaborated) → r ≡ Elaborated.Refused class a n → r ≡ Elaborated.Done → ⊥
+not-done r p q = let z : _≡_ {A = ℕ} 0 1 = cc in omega arith
 
 pub whether-fitting : (surface declarations work : List ℕ) (rows count : ℕ) → 16384 ≤ length work → rows ≤ length surface / 8 → count ≤ length declarations / 5
     → Whether (leb count 4294967296) (Fitting surface declarations work rows count)

@@ -195,11 +195,11 @@ module _ (s surface declarations : List ℕ) (rows count : ℕ) (core₀ : List 
           )
       go (some x) q = absurd (let z : _≡_ {A = ℕ} 0 1 = cc in omega arith)
 
-  pub elaborates-refused : (core : List ℕ) (class a n : ℕ) → all-come s [] 0 ds core₀ ≡ refused (refused-name class a n) → Elaborates s ds rows core₀ (Elaborated.Refused class a n) core
-  elaborates-refused core class a n e = go (first-refused s [] ds) (sym (all-concluded s [] 0 ds core₀) ∙ e)
+  pub elaborates-refused : (core : List ℕ) (class a n : ℕ) (r : Elaborated) → r ≡ Elaborated.Refused class a n → all-come s [] 0 ds core₀ ≡ refused (refused-name class a n) → Elaborates s ds rows core₀ r core
+  elaborates-refused core class a n r p e = go (first-refused s [] ds) (sym (all-concluded s [] 0 ds core₀) ∙ e)
     where
-      go : (o : Option RefusedName) → concluded o table ≡ refused (refused-name class a n) → ElaboratesTo o s ds rows core₀ (Elaborated.Refused class a n) core
+      go : (o : Option RefusedName) → concluded o table ≡ refused (refused-name class a n) → ElaboratesTo o s ds rows core₀ r core
       go none q = absurd (let z : _≡_ {A = ℕ} 0 1 = cc in omega arith)
       go (some x) q =
           let f : refused-name class a n ≡ x = cc in
-          ap (λ (y : RefusedName). Elaborated.Refused (y .class) (y .start) (y .length)) f
+          p ∙ ap (λ (y : RefusedName). Elaborated.Refused (y .class) (y .start) (y .length)) f

@@ -25,6 +25,10 @@ abbrev pub Whether : Bool → Type 0 → Type 0
 Whether true P = P
 Whether false P = P → ⊥
 
+-- An index with nothing in it.
+abbrev pub Blank : List ℕ → Type 0
+Blank index = (i : ℕ) → getD index i 0 ≡ 0
+
 -- What resolving declarations comes to: the core table, or the refused name.
 pub data ModuleOutcome : Type 0 where
   resolved : (core : List ℕ) → ModuleOutcome
@@ -45,12 +49,16 @@ module _ (s surface declarations : List ℕ) (rows d : ℕ) where
   abbrev pub record-word : ℕ → ℕ
   record-word j = getD declarations (d * 5 + j) 0
 
+  -- The type and the body of the declaration at place d.
+  abbrev pub record-outcome : List ℕ → Outcome
+  record-outcome core = parts-outcome (getD declarations (d * 5) 0) (record-word 3) (record-word 4) core
+
   -- The declaration at place d. "4 declaration name used before": it is compared with those before it.
   unfoldable pub declaration-outcome : List ℕ → ModuleOutcome
   declaration-outcome core =
       elim (find (part s (record-word 1) (record-word 2)) (declared-names s declarations 0 d)) [
         | some i ↦ refused (refused-name 4 (record-word 1) (record-word 2))
-        | none ↦ module-outcome (parts-outcome (getD declarations (d * 5) 0) (record-word 3) (record-word 4) core)
+        | none ↦ module-outcome (record-outcome core)
       ]
 
 -- The answer, and the core table.

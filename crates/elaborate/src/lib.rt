@@ -3,7 +3,7 @@
 ghost use mathlib.Core.Path.{_≡_};
 ghost use mathlib.Core.List.{List, [], _∷_};
 ghost use Prim.Native.Nat.{_+_, _*_, _<_, _≤_};
-ghost use lib.ListN.{length, take, replicate};
+ghost use lib.ListN.{length, take};
 ghost use Rattle.terms.specs.Forms.{arity-of, holds-span};
 ghost use Rattle.terms.specs.Label.{Declaration};
 ghost use Rattle.terms.specs.Resolution.{covers, core-of};
@@ -13,10 +13,18 @@ ghost use Rattle.stacks.specs.Stacks.{works-in, WorkArea, WorkPushed};
 ghost use Rattle.elaborate.specs.RowTerm.{row-word, six-at, row-term};
 ghost use Rattle.elaborate.specs.Machine.{Six, scheduled-one, scheduled, Room, Inside, RowDone, ReferenceDone, without-arguments, form-row, Stepped, Answered};
 ghost use Rattle.elaborate.specs.Loadable.{Loadable, Elaborates};
-ghost use Rattle.elaborate.specs.Declarations.{Fitting, Whether, parts-outcome, declaration-outcome, Declared};
-use scope::Found;
+ghost use Rattle.elaborate.specs.Declarations.{Fitting, Whether, Blank, record-outcome, declaration-outcome, Declared};
 use scope::Referent;
+use scope::Slot;
 use stacks::Work;
+
+// The kinds that resolution tells apart: a reference among terms, a postulate among declarations.
+const REF: u32 = 24;
+
+const POSTULATE: u32 = 1;
+
+// So many declarations are walked over sooner than an index is cleared.
+const FEW: usize = 16;
 
 // How many work items, values and names in scope there are.
 struct State {
@@ -40,6 +48,16 @@ enum TermDone {
 pub enum Elaborated {
     Done,
     Refused { class: u8, start: u32, length: u32 },
+}
+
+fn refused(class: u8, start: u32, length: u32) -> Elaborated
+    ensures { λ r. ⌜ r ≡ Elaborated.Refused class start length ⌝ }
+{
+    Elaborated::Refused {
+        class,
+        start,
+        length,
+    }
 }
 
 // Whether a form's binder covers its argument i.
@@ -244,7 +262,7 @@ fn eval(
     let kind = surface[a];
     let start = surface[a + 1];
     let length = surface[a + 2];
-    if kind == 24 {
+    if kind == REF {
         return eval_reference(s, declarations, core, work, index, st, id, d, start, length);
     }
     let n = rows::arity(kind);
@@ -371,7 +389,7 @@ fn elaborate_term(
     }
 }
 
-// The type of a declaration, and its body if the kind has one.
+// The type of the declaration at place d, and its body if the kind has one.
 fn elaborate_parts(
     s: &[u8],
     surface: &[u32],
@@ -379,20 +397,21 @@ fn elaborate_parts(
     core: &mut [u32],
     work: &mut [u32],
     index: &[u16],
-    kind: u32,
-    ty: u32,
-    body: u32,
     rows: usize,
     d: usize,
 ) -> TermDone
     requires { ⌜ Inside (now s) (now surface) (now declarations) (now index) (now work) rows d ⌝ }
-    ensures { λ r. ⌜ Answered (parts-outcome (now (s .entry)) (now (surface .entry)) (now (declarations .entry)) rows d kind ty body (now (core .entry))) r (now (core .exit)) ⌝ }
+    requires { ⌜ d * 5 + 5 ≤ length (now declarations) ⌝ }
+    ensures { λ r. ⌜ Answered (record-outcome (now (s .entry)) (now (surface .entry)) (now (declarations .entry)) rows d (now (core .entry))) r (now (core .exit)) ⌝ }
 {
+    let kind = declarations[d * 5];
+    let ty = declarations[d * 5 + 3];
+    let body = declarations[d * 5 + 4];
     let t = elaborate_term(s, surface, declarations, core, work, index, ty, rows, d);
     match t {
         TermDone::Unknown { start, length } => TermDone::Unknown { start, length },
         TermDone::Done => {
-            if kind == 1 {
+            if kind == POSTULATE {
                 return TermDone::Done;
             }
             elaborate_term(s, surface, declarations, core, work, index, body, rows, d)
@@ -400,55 +419,35 @@ fn elaborate_parts(
     }
 }
 
-// The declaration at place d: its name is new among those before it, and then its type and its body are resolved.
+// The declaration at place d: its name is new among those before it, and then its type and its body are resolved, and its name goes into the index.
 fn declaration_step(
     s: &[u8],
     surface: &[u32],
     declarations: &[u32],
     core: &mut [u32],
     work: &mut [u32],
-    index: &[u16],
+    index: &mut [u16],
     rows: usize,
     d: usize,
 ) -> Elaborated
     requires { ⌜ Inside (now s) (now surface) (now declarations) (now index) (now work) rows d ⌝ }
     requires { ⌜ d * 5 + 5 ≤ length (now declarations) ⌝ }
     ensures { λ r. ⌜ Declared (declaration-outcome (now (s .entry)) (now (surface .entry)) (now (declarations .entry)) rows d (now (core .entry))) r (now (core .exit)) ⌝ }
+    ensures { λ r. ⌜ (r ≡ Elaborated.Done → Indexed (now (s .entry)) (now (declarations .entry)) (d + 1) (now (index .exit))) ⌝ }
 {
-    let at = d * 5;
-    let kind = declarations[at];
-    let start = declarations[at + 1];
-    let length = declarations[at + 2];
-    let ty = declarations[at + 3];
-    let body = declarations[at + 4];
+    let start = declarations[d * 5 + 1];
+    let length = declarations[d * 5 + 2];
     let f = scope::find_indexed(s, declarations, index, d, start, length);
     match f {
-        Found::At(_) => Elaborated::Refused {
-            class: 4,
-            start,
-            length,
-        },
-        Found::Nothing => {
-            let t = elaborate_parts(
-                s,
-                surface,
-                declarations,
-                core,
-                work,
-                index,
-                kind,
-                ty,
-                body,
-                rows,
-                d,
-            );
+        Slot::Held(_) => refused(4, start, length),
+        Slot::Free(slot) => {
+            let t = elaborate_parts(s, surface, declarations, core, work, index, rows, d);
             match t {
-                TermDone::Done => Elaborated::Done,
-                TermDone::Unknown { start, length } => Elaborated::Refused {
-                    class: 5,
-                    start,
-                    length,
-                },
+                TermDone::Done => {
+                    scope::enter(index, slot, d);
+                    Elaborated::Done
+                }
+                TermDone::Unknown { start, length } => refused(5, start, length),
             }
         }
     }
@@ -482,7 +481,7 @@ fn elaborate_declarations(
     count: usize,
 ) -> Elaborated
     requires { ⌜ Fitting (now surface) (now declarations) (now work) rows count ⌝ }
-    requires { ⌜ now index ≡ replicate 8192 0 ⌝ }
+    requires { ⌜ Blank (now index) ⌝ }
     ensures { λ r. ⌜ ((ds : List Declaration) → Loadable (now (surface .entry)) (now (declarations .entry)) (now (core .entry)) (now (work .entry)) rows count ds → Elaborates (now (s .entry)) ds rows (now (core .entry)) r (now (core .exit))) ⌝ }
 {
     let mut d: usize = 0;
@@ -490,7 +489,6 @@ fn elaborate_declarations(
         let r = declaration_step(s, surface, declarations, core, work, index, rows, d);
         match r {
             Elaborated::Done => {
-                scope::enter(s, declarations, index, d);
                 d += 1;
             }
             Elaborated::Refused {
@@ -498,11 +496,7 @@ fn elaborate_declarations(
                 start,
                 length,
             } => {
-                return Elaborated::Refused {
-                    class,
-                    start,
-                    length,
-                };
+                return refused(class, start, length);
             }
         }
     }
@@ -522,11 +516,11 @@ pub fn elaborate_surface(
     ensures { λ r. ⌜ ((ds : List Declaration) → Loadable (now (surface .entry)) (now (declarations .entry)) (now (core .entry)) (now (work .entry)) rows count ds → Elaborates (now (s .entry)) ds rows (now (core .entry)) r (now (core .exit))) ⌝ }
 {
     if !fitting(surface, declarations, work, rows, count) {
-        return Elaborated::Refused {
-            class: 1,
-            start: 0,
-            length: 0,
-        };
+        return refused(1, 0, 0);
+    }
+    if count <= FEW {
+        let mut none = [0u16; 1];
+        return elaborate_declarations(s, surface, declarations, core, work, &mut none, rows, count);
     }
     let mut index = [0u16; scope::INDEX];
     elaborate_declarations(

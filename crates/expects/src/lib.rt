@@ -62,7 +62,7 @@ fn kind_number(k: TokenKind) -> u8
 }
 
 // The next token. A parenthesis that stands at its place is told there, before layout is looked for.
-pub fn next_token(s: &[u8], at: usize) -> Lexed
+fn token_at(s: &[u8], at: usize) -> Lexed
     ensures { λ r. ⌜ r ≡ next-token (now (s .entry)) at ⌝ }
 {
     if at < s.len() {
@@ -83,6 +83,18 @@ pub fn next_token(s: &[u8], at: usize) -> Lexed
         }
     }
     token::next_token(s, at)
+}
+
+// The next token. One space, as often stands between two tokens, is passed before the token is looked at.
+pub fn next_token(s: &[u8], at: usize) -> Lexed
+    ensures { λ r. ⌜ r ≡ next-token (now (s .entry)) at ⌝ }
+{
+    if at < s.len() {
+        if s[at] == 32 {
+            return token_at(s, at + 1);
+        }
+    }
+    token_at(s, at)
 }
 
 // A token that was read, which must be of the wanted kind.

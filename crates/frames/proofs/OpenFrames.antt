@@ -1,7 +1,6 @@
 -- The open frames after one more was opened, and after the last took an argument. Assumes nothing.
 use Prim.Native.Nat.{ℕ, zero, suc, _+_, _*_, _≤_, _<_}
 use mathlib.Core.Path.{_≡_, refl, sym, ap, ap₂, _∙_}
-use mathlib.Core.Bool.{true}
 use mathlib.Core.List.{List, [], _∷_, _++_}
 use native.Mathlib.Decide.{ℕ-discrete}
 use native.Mathlib.Nat.{add-zero, add-assoc}
@@ -11,10 +10,8 @@ use lib.ListN.{length, getD, take, set, length-set, length-take}
 use lib.Seq.{getD-set-same, getD-set-other, take-suc-set, length-take-le, ext-getD}
 use Rattle.terms.specs.Label.{Label}
 use Rattle.tables.specs.Tables.{with-words}
-use Rattle.tables.proofs.Storing.{stored-fits}
 use Rattle.tables.proofs.Stored as tables
-use Rattle.frames.specs.Frames.{OpenFrame, new-frame, frame-args, frame-count, frame-at, open-frames, may-open, opened, may-take, pushed}
-use Rattle.frames.proofs.Room.{opened-there, may-open-yes, may-take-yes, pushed-yes}
+use Rattle.frames.specs.Frames.{OpenFrame, new-frame, frame-args, frame-count, frame-at, open-frames, HasFrame, opened, pushed}
 
 -- A frame is its eleven words, and the first d frames are the words in front of the next.
 same-frame : (v w : List ℕ) (d : ℕ) → ((i : ℕ) → i < d * 11 + 11 → getD v i 0 ≡ getD w i 0) → frame-at v d ≡ frame-at w d
@@ -60,14 +57,12 @@ module _ (w : List ℕ) (d : ℕ) where
   unfolding frame-at
   count-children h = omega (arith, length-take (frame-count w (d * 11)) (frame-args w (d * 11)))
 
--- A work area that has room for 512 frames, of which fewer are open.
-module _ (w : List ℕ) (d : ℕ) (room : 5632 ≤ length w) (h : d < 512) where
-  pub may-open-room : may-open w d ≡ true
-  may-open-room = may-open-yes w d h (omega arith)
-
+-- A work area with the words of one more frame.
+module _ (w : List ℕ) (d : ℕ) (room : HasFrame w d) where
   module _ (l : Label) where
     opened-words : opened w d l ≡ with-words w (d * 11) (new-frame l)
-    opened-words = sym (opened-there w d l h .1) ∙ stored-fits w (d * 11) (new-frame l) (omega arith)
+    unfolding opened
+    opened-words = refl
 
     word-opened : (i : ℕ) → i < 11 → getD (opened w d l) (d * 11 + i) 0 ≡ getD (new-frame l) i 0
     word-opened i k = ap (λ (v : List ℕ). getD v (d * 11 + i) 0) opened-words ∙ tables.word-stored w (d * 11) (new-frame l) (omega arith) i k
@@ -106,9 +101,6 @@ module _ (w : List ℕ) (d : ℕ) (room : 5632 ≤ length w) (h : d < 512) where
   n = frame-count w a
 
   module _ (id : ℕ) (k : n < 6) where
-    pub may-take-room : may-take w d ≡ true
-    may-take-room = may-take-yes w d may-open-room k
-
     abbrev v : List ℕ
     v = pushed w d id
 
@@ -116,7 +108,8 @@ module _ (w : List ℕ) (d : ℕ) (room : 5632 ≤ length w) (h : d < 512) where
     with-row = set w (a + 5 + n) id
 
     pushed-words : v ≡ set with-row (a + 4) (n + 1)
-    pushed-words = pushed-yes w d id may-take-room
+    unfolding pushed
+    pushed-words = refl
 
     pub length-pushed : length v ≡ length w
     length-pushed = ap length pushed-words ∙ simp length-set

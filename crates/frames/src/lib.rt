@@ -1,12 +1,12 @@
 // Open frames in the work area: eleven words a frame, from word 0 on. The port of `TermFrame` in surface/parser.rs.
 use terms::Label;
 ghost use mathlib.Core.Path.{_≡_};
-ghost use Prim.Native.Nat.{_+_, _*_};
+ghost use Prim.Native.Nat.{_+_, _*_, _<_};
 ghost use lib.ListN.{getD};
-ghost use Rattle.frames.specs.Frames.{frame-label, frame-args, frame-count, term-frame, frame-at, frame-words, may-open, opened, may-take, pushed};
+ghost use Rattle.frames.specs.Frames.{HasFrame, frame-label, frame-args, frame-count, term-frame, frame-at, opened, pushed};
 
-// "more than 512 frames open in one term" are refused.
-const FRAMES: usize = 512;
+// The words of a frame.
+const FRAME: usize = 11;
 
 // A form that is open: what is kept of it, the rows of its arguments, and how many of these are complete.
 pub struct TermFrame {
@@ -15,97 +15,66 @@ pub struct TermFrame {
     pub len: u32,
 }
 
-fn frame_words(frame: TermFrame) -> [u32; 11]
-    ensures { λ r. ⌜ r ≡ frame-words frame ⌝ }
-{
-    let l = frame.label;
-    let a = frame.args;
-    [
-        l.kind,
-        l.start,
-        l.length,
-        l.offset,
-        frame.len,
-        a[0],
-        a[1],
-        a[2],
-        a[3],
-        a[4],
-        a[5],
-    ]
-}
-
-// Opens the frame number depth and answers true, or false where 512 are open or the work area has no room.
-pub fn open_frame(work: &mut [u32], depth: usize, label: Label) -> bool
-    ensures { λ r. ⌜ r ≡ may-open (now (work .entry)) depth ⌝ }
+// Opens the frame number depth.
+pub fn open_frame(work: &mut [u32], depth: usize, label: Label)
+    requires { ⌜ HasFrame (now work) depth ⌝ }
     ensures { λ r. ⌜ now (work .exit) ≡ opened (now (work .entry)) depth label ⌝ }
 {
-    if depth < FRAMES {
-        let frame = TermFrame {
-            label: label,
-            args: [0; 6],
-            len: 0,
-        };
-        let words = frame_words(frame);
-        return tables::store(work, depth * 11, &words);
-    }
-    false
+    let words = [
+        label.kind,
+        label.start,
+        label.length,
+        label.offset,
+        0,
+        0,
+        0,
+        0,
+        0,
+        0,
+        0,
+    ];
+    tables::put(work, depth * FRAME, &words);
 }
 
-// The row of one more argument of the frame number depth, in place; false where the frame is full.
-pub fn push_arg(work: &mut [u32], depth: usize, id: u32) -> bool
-    ensures { λ r. ⌜ r ≡ may-take (now (work .entry)) depth ⌝ }
+// The row of one more argument of the frame number depth, in place.
+pub fn push_arg(work: &mut [u32], depth: usize, id: u32)
+    requires { ⌜ HasFrame (now work) depth ⌝ }
+    requires { ⌜ frame-count (now work) (depth * 11) < 6 ⌝ }
     ensures { λ r. ⌜ now (work .exit) ≡ pushed (now (work .entry)) depth id ⌝ }
 {
-    if depth < FRAMES {
-        let at = depth * 11;
-        if at + 11 <= work.len() {
-            let n = work[at + 4];
-            if n < 6 {
-                let place = at + 5 + n as usize;
-                work[place] = id;
-                work[at + 4] = n + 1;
-                return true;
-            }
-        }
-    }
-    false
+    let at = depth * FRAME;
+    let n = work[at + 4];
+    let place = at + 5 + n as usize;
+    work[place] = id;
+    work[at + 4] = n + 1;
 }
 
-// Word i of the frame number depth, and 0 behind the end. The tests of a frame that is there are the same for each of its words, so that
-// they are made once; the others keep the sum from wrapping.
+// Word i of the frame number depth.
 fn frame_word(work: &[u32], depth: usize, i: usize) -> u32
+    requires { ⌜ HasFrame (now work) depth ⌝ }
+    requires { ⌜ i < 11 ⌝ }
     ensures { λ r. ⌜ r ≡ getD (now (work .entry)) (depth * 11 + i) 0 ⌝ }
 {
-    if depth < FRAMES {
-        let at = depth * 11;
-        if at + 11 <= work.len() {
-            if i < 11 {
-                return work[at + i];
-            }
-        }
-    }
-    if depth <= work.len() / 11 {
-        if i <= work.len() {
-            return tables::word_at(work, depth * 11 + i);
-        }
-    }
-    0
+    let at = depth * FRAME;
+    work[at + i]
 }
 
 pub fn frame_kind(work: &[u32], depth: usize) -> u32
+    requires { ⌜ HasFrame (now work) depth ⌝ }
     ensures { λ r. ⌜ r ≡ frame-at (now (work .entry)) depth .label .kind ⌝ }
 {
     frame_word(work, depth, 0)
 }
 
 pub fn frame_len(work: &[u32], depth: usize) -> u32
+    requires { ⌜ HasFrame (now work) depth ⌝ }
     ensures { λ r. ⌜ r ≡ frame-count (now (work .entry)) (depth * 11) ⌝ }
 {
     frame_word(work, depth, 4)
 }
 
 fn load_label(work: &[u32], depth: usize) -> Label
+    requires { ⌜ HasFrame (now work) depth ⌝ }
     ensures { λ r. ⌜ r ≡ frame-label (now (work .entry)) (depth * 11) ⌝ }
 {
     Label {
@@ -117,6 +86,7 @@ fn load_label(work: &[u32], depth: usize) -> Label
 }
 
 fn load_args(work: &[u32], depth: usize) -> [u32; 6]
+    requires { ⌜ HasFrame (now work) depth ⌝ }
     ensures { λ r. ⌜ r ≡ frame-args (now (work .entry)) (depth * 11) ⌝ }
 {
     [
@@ -130,6 +100,7 @@ fn load_args(work: &[u32], depth: usize) -> [u32; 6]
 }
 
 pub fn load_frame(work: &[u32], depth: usize) -> TermFrame
+    requires { ⌜ HasFrame (now work) depth ⌝ }
     ensures { λ r. ⌜ r ≡ term-frame (now (work .entry)) depth ⌝ }
 {
     TermFrame {

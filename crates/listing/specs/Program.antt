@@ -14,7 +14,7 @@ lent = record { surface = 8192; core = 8192; declarations = 1280; work = 16384 }
 
 -- The listing of an accepted source, or the refusal.
 abbrev pub text-of : List ℕ → Answer → Outcome → List ℕ
-text-of s (Answer.Loaded rows declarations) o = listing s (o .core) (o .declarations) rows declarations
+text-of s (Answer.Loaded rows declarations) o = listing s (o .tables .core) (o .tables .declarations) rows declarations
 text-of s (Answer.Refused r) o = refusal-line r
 
 unfoldable pub program-text : List ℕ → List ℕ

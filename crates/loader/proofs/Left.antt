@@ -11,7 +11,8 @@ use Rattle.surface.specs.Reader.{Position, start, Result, done, refused}
 use Rattle.surface.specs.Loading.{Outcome, outcome, loading, load}
 use Rattle.surface.specs.SameCore.{row-count, declaration-count}
 use Rattle.tables.specs.Tables.{cleared}
-use Rattle.loader.specs.Leaving.{lengths-of, leaving, Stores, Counts}
+use Rattle.loader.specs.Leaving.{lengths-of, leaving}
+use Rattle.loader.specs.inner.Stored.{Stores, Counts}
 use Rattle.loader.proofs.Cleared.{cleared-behind, cleared-whole}
 
 -- A table of the length n whose first k words are ws.

@@ -6,4 +6,4 @@ mod Resolving
 mod Stored
 mod Left
 mod ParsedTables
-pub mod Demand
+pub mod Statements

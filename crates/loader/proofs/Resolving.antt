@@ -11,7 +11,7 @@ use Rattle.surface.specs.declared.Answer.{Answer}
 use Rattle.surface.specs.Reader.{nowhere}
 use Rattle.elaborate.specs.declared.Elaborated.{Elaborated}
 use Rattle.elaborate.specs.Loadable.{ElaboratesTo}
-use Rattle.loader.specs.Leaving.{ResolvesTo}
+use Rattle.loader.specs.inner.Stored.{ResolvesTo}
 
 module _ (s : List ℕ) (ds : List Declaration) (rows : ℕ) (core : List ℕ) (e : Elaborated) (core₁ : List ℕ) where
   pub all-resolved : (o : Option RefusedName) (count : ℕ) → ElaboratesTo o s ds rows core e core₁ → e ≡ Elaborated.Done → count ≡ length ds

@@ -17,7 +17,8 @@ use Rattle.surface.proofs.Acceptance.{IsParsed, is-parsed}
 use Rattle.reader.specs.declared.ModuleRead.{ModuleRead}
 use Rattle.reader.specs.Reads.{ReadsModule}
 use Rattle.elaborate.specs.Loadable.{Loadable}
-use Rattle.loader.specs.Leaving.{lengths-of, Stores, ResolvesTo, Resolves, Counts}
+use Rattle.loader.specs.Leaving.{lengths-of}
+use Rattle.loader.specs.inner.Stored.{Stores, ResolvesTo, Resolves, Counts}
 use Rattle.loader.proofs.Parsing.{load-refused, load-short, load-names}
 use Rattle.loader.proofs.WellRead.{well-read}
 use Rattle.elaborate.proofs.ResolvedTrees.{records-kept}

@@ -1,2 +1,4 @@
 pub mod Leaving
 pub mod Parsed
+pub mod Statements
+pub mod inner

@@ -9,7 +9,7 @@ ghost use mathlib.Core.Path.{_≡_};
 ghost use Prim.Native.Nat.{_*_, _≤_};
 ghost use lib.ListN.{length};
 ghost use Rattle.surface.specs.Reader.{start, nowhere, at-offset};
-ghost use Rattle.surface.specs.Loading.{parsing, load};
+ghost use Rattle.surface.specs.Loading.{tables, parsing, Loads};
 ghost use Rattle.surface.specs.SameCore.{row-count, declaration-count};
 ghost use Rattle.reader.specs.Reads.{ReadsModule};
 ghost use Rattle.tables.specs.Tables.{cleared};
@@ -17,8 +17,9 @@ ghost use mathlib.Core.List.{List, []};
 ghost use Rattle.terms.specs.Label.{Declaration};
 ghost use Rattle.surface.specs.Loading.{loading};
 ghost use Rattle.elaborate.specs.Loadable.{Loadable};
-ghost use Rattle.loader.specs.Parsed.{rows-read, declarations-read, parsing-leaves, parse};
-ghost use Rattle.loader.specs.Leaving.{lengths-of, leaving, Stores, Resolves, Counts};
+ghost use Rattle.loader.specs.Parsed.{rows-read, declarations-read, Parses};
+ghost use Rattle.loader.specs.Leaving.{lengths-of};
+ghost use Rattle.loader.specs.inner.Stored.{Stores, Resolves, Counts};
 
 fn refused(class: u8) -> Refusal
     ensures { λ r. ⌜ r ≡ nowhere class ⌝ }
@@ -148,7 +149,7 @@ pub fn load(
     declarations: &mut [u32],
     work: &mut [u32],
 ) -> Answer
-    ensures { λ r. ⌜ leaving r (now (surface .exit)) (now (core .exit)) (now (declarations .exit)) (now (work .exit)) ≡ load (now (s .entry)) (lengths-of (now (surface .entry)) (now (core .entry)) (now (declarations .entry)) (now (work .entry))) ⌝ }
+    ensures { λ r. ⌜ Loads (now (s .entry)) (tables (now (surface .entry)) (now (core .entry)) (now (declarations .entry)) (now (work .entry))) r (tables (now (surface .exit)) (now (core .exit)) (now (declarations .exit)) (now (work .exit))) ⌝ }
 {
     let answer = load_tables(s, surface, core, declarations, work);
     let rows = row_count(answer);
@@ -197,7 +198,7 @@ pub fn parse_surface(
     declarations: &mut [u32],
     work: &mut [u32],
 ) -> ModuleRead
-    ensures { λ r. ⌜ parsing-leaves r (now (surface .exit)) (now (declarations .exit)) (now (work .exit)) ≡ parse (now (s .entry)) (lengths-of (now (surface .entry)) [] (now (declarations .entry)) (now (work .entry))) ⌝ }
+    ensures { λ r. ⌜ Parses (now (s .entry)) (tables (now (surface .entry)) [] (now (declarations .entry)) (now (work .entry))) r (tables (now (surface .exit)) [] (now (declarations .exit)) (now (work .exit))) ⌝ }
 {
     let read = parse(s, surface, declarations, work);
     let rows = rows_read(read);

@@ -1,13 +1,11 @@
 -- The steps of the frame reader, from what the functions that they call give. Assumes nothing.
 use mathlib.Core.Path.{_≡_, sym, _∙_, ap}
 use mathlib.Core.List.{List, [], _∷_, _++_}
-use mathlib.Core.Bool.{true, false, and-true}
+use mathlib.Core.Bool.{true, false}
 use Prim.Native.Nat.{ℕ, suc, _+_, _*_, _≤_, _<_, min}
 use native.Mathlib.Omega.{arith}
 use native.Mathlib.Numerals.{add-one}
-use lib.Dec.{ltb}
 use lib.ListN.{length, take, length-take}
-use borrow.Author.Tests.{le-leb, ltb-true, ltb-false}
 use Rattle.token.specs.declared.Lexed.{Lexed}
 use Rattle.token.specs.declared.Token.{Token}
 use Rattle.token.specs.declared.Refusal.{Refusal}
@@ -18,7 +16,7 @@ use Rattle.rows.specs.Places.{stored-at}
 use Rattle.rows.proofs.Arities.{arity-at-most-six}
 use Rattle.frames.proofs.OpenFrames.{frames-opened, frames-pushed}
 use Rattle.frames.specs.declared.TermFrame.{TermFrame}
-use Rattle.frames.specs.Frames.{frame-at, frame-count, frame-args, term-frame, open-frames, may-open, opened, pushed}
+use Rattle.frames.specs.Frames.{frame-at, frame-count, frame-args, term-frame, open-frames, HasFrame, opened, pushed}
 use Rattle.surface.specs.Reader.{nowhere}
 use Rattle.surface.specs.Reading.{beginning, closing, lexed}
 use Rattle.expects.specs.Expects.{position-at, begun, Begins}
@@ -30,10 +28,6 @@ use Rattle.parser.specs.declared.State.{State}
 use Rattle.parser.specs.declared.Step.{Step}
 use Rattle.parser.proofs.States.{last-waits, others-wait, push-stepped, begin-refused, leaf-same, too-deep, open-went, more-went, close-refused, close-same}
 use Rattle.parser.proofs.Readers.{begin-arities, begin-ahead, close-ahead}
-
--- One more frame may be opened exactly if fewer than 512 are open: the work area has room for them.
-open-test : (w : List ℕ) (d : ℕ) → 16384 ≤ length w → d ≤ 512 → may-open w d ≡ ltb d 512
-open-test w d h k = rw (le-leb (d * 11 + 11) (length w) (omega arith)) (and-true (ltb d 512))
 
 module _ (s table work : List ℕ) (st : State) (i : Inside s work st) where
   -- A term is to be read, and x is what it begins with.
@@ -52,22 +46,21 @@ module _ (s table work : List ℕ) (st : State) (i : Inside s work st) where
         let a = begin-ahead s _ _ _ b in
         push-stepped s table work st l [] next (st .depth) work (leaf-same s table work st have l next b) i (a .past) (a .high) (i .depth) (i .area) (i .waiting) r table₁ q t
 
-    pub open-step : (l : Label) (n next : ℕ) (area : List ℕ) → x ≡ Begun.Frame l n next → may-open work (st .depth) ≡ true → area ≡ opened work (st .depth) l
+    pub open-step : (l : Label) (n next : ℕ) (area : List ℕ) → x ≡ Begun.Frame l n next → st .depth < 512 → area ≡ opened work (st .depth) l
         → length area ≡ length work
         → Went s table work st (record { at = next; rows = st .rows; depth = st .depth + 1; value = 0; have = false }) table area
-    open-step l n next area e m q k =
+    open-step l n next area e d q k =
         let b = begun-at _ e in
         let a = begin-ahead s _ _ _ b in
-        let d : st .depth < 512 = ltb-true (st .depth) 512 (sym (open-test work (st .depth) (i .area) (i .depth)) ∙ m) in
         open-went s table work st have (begin-arities s) l n next b d i area (a .past) (a .high) k
-        (ap (open-frames area) (add-one (st .depth)) ∙ ap (λ (w : List ℕ). open-frames w (suc (st .depth))) q ∙ frames-opened work (st .depth) (omega (arith, i .area)) d l)
+        (ap (open-frames area) (add-one (st .depth)) ∙ ap (λ (w : List ℕ). open-frames w (suc (st .depth))) q ∙ frames-opened work (st .depth) (omega (arith, i .area)) l)
 
-    pub deep-step : (l : Label) (n next : ℕ) → x ≡ Begun.Frame l n next → may-open work (st .depth) ≡ false → outcome s table work st ≡ refused (nowhere 7)
+    pub deep-step : (l : Label) (n next : ℕ) → x ≡ Begun.Frame l n next → 512 ≤ st .depth → outcome s table work st ≡ refused (nowhere 7)
     deep-step l n next e m =
-        too-deep s table work st have l n next (begun-at _ e) (ltb-false (st .depth) 512 (sym (open-test work (st .depth) (i .area) (i .depth)) ∙ m))
+        too-deep s table work st have l n next (begun-at _ e) m
 
   -- A term is complete, and the frame d, which is the last, takes it.
-  module _ (d : ℕ) (have : st .have ≡ true) (deep : st .depth ≡ suc d) (area : List ℕ) (q : area ≡ pushed work d (st .value)) where
+  module _ (d : ℕ) (have : st .have ≡ true) (deep : st .depth ≡ suc d) where
     abbrev count : List ℕ → ℕ
     count w = frame-count w (d * 11)
 
@@ -78,20 +71,26 @@ module _ (s table work : List ℕ) (st : State) (i : Inside s work st) where
     unfolding frame-at
     counted w = length-take (count w) (frame-args w (d * 11))
 
-    frames : open-frames area (suc d) ≡ record { label = frame-at work d .label; children = frame-at work d .children ++ (st .value ∷ []) } ∷ open-frames work d
-    frames =
-        let w = last-waits work (st .depth) d deep (i .waiting) in
-        ap (λ (v : List ℕ). open-frames v (suc d)) q
-        ∙ frames-pushed work d (omega (arith, i .area)) (omega (arith, i .depth)) (st .value) (omega (arith, counted work, arity-at-most-six (kind work)))
+    pub room : HasFrame work d
+    room = omega (arith, i .area, i .depth)
 
-    pub more-step : count area < arity-of (kind area) → length area ≡ length work
+    pub takes : count work < 6
+    takes =
+        let w = last-waits work (st .depth) d deep (i .waiting) in
+        omega (arith, counted work, arity-at-most-six (kind work))
+
+  module _ (d : ℕ) (have : st .have ≡ true) (deep : st .depth ≡ suc d) (area : List ℕ) (q : area ≡ pushed work d (st .value)) where
+    frames : open-frames area (suc d) ≡ record { label = frame-at work d .label; children = frame-at work d .children ++ (st .value ∷ []) } ∷ open-frames work d
+    frames = ap (λ (v : List ℕ). open-frames v (suc d)) q ∙ frames-pushed work d (room d have deep) (st .value) (takes d have deep)
+
+    pub more-step : count d have deep area < arity-of (kind d have deep area) → length area ≡ length work
         → Went s table work st (record { at = st .at; rows = st .rows; depth = st .depth; value = 0; have = false }) table area
-    more-step h k = more-went s table work st d have deep i area frames (omega (arith, counted area)) k
+    more-step h k = more-went s table work st d have deep i area frames (omega (arith, counted d have deep area)) k
 
     -- It was its last argument, and x is the token behind it.
-    module _ (h : arity-of (kind area) ≤ count area) (x : Lexed) (closes : expects.Reads s (closing s) (st .at) x) where
-      last : arity-of (kind area) ≤ length (frame-at area d .children)
-      last = omega (arith, counted area, arity-at-most-six (kind area))
+    module _ (h : arity-of (kind d have deep area) ≤ count d have deep area) (x : Lexed) (closes : expects.Reads s (closing s) (st .at) x) where
+      last : arity-of (kind d have deep area) ≤ length (frame-at area d .children)
+      last = omega (arith, counted d have deep area, arity-at-most-six (kind d have deep area))
 
       pub unclosed-step : (r : Refusal) → x ≡ Lexed.Refused r → outcome s table work st ≡ refused r
       unclosed-step r e = close-refused s table work st d have deep i area frames last r (closes (st .rows) ∙ ap (lexed s (st .rows)) e)

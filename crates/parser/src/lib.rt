@@ -11,6 +11,9 @@ ghost use Rattle.rows.specs.Places.{stored-at};
 ghost use Rattle.surface.specs.Reader.{nowhere};
 ghost use Rattle.parser.specs.Machine.{pushed-term, ended, Inside, Stepped, ready, ReadsTerm};
 
+// "more than 512 frames open in one term" are refused.
+const FRAMES: usize = 512;
+
 // Between two steps of reading a term: where reading goes on, how many rows are stored, how many frames are open,
 // and whether a term has just been completed, with its row.
 pub struct State {
@@ -77,7 +80,8 @@ fn term_step(s: &[u8], table: &mut [u32], work: &mut [u32], st: State) -> Step
             push_term(table, rows, row, next, depth)
         }
         Begun::Frame(label, _, next) => {
-            if frames::open_frame(work, depth, label) {
+            if depth < FRAMES {
+                frames::open_frame(work, depth, label);
                 return Step::Go(State {
                     at: next,
                     rows: rows,

@@ -1,19 +1,17 @@
 -- The answers of the inner layers as numbers. Assumes nothing.
+use mathlib.Core.Path.{_≡_}
+use mathlib.Core.List.{List}
 use Prim.Native.Nat.{ℕ}
-use Rattle.token.specs.declared.TokenKind.{TokenKind}
 use Rattle.token.specs.declared.Place.{Place}
 use Rattle.token.specs.declared.Lexed.{Lexed}
 use Rattle.words.specs.declared.NameTest.{NameTest}
+pub use Rattle.surface.specs.Reports.{token-number}
+use Rattle.surface.specs.Tables.{Tables, lengths}
+use Rattle.loader.specs.Parsed.{parse, rows-read}
 
 abbrev pub place-number : Place → ℕ
 place-number (Place.At at) = at
 place-number Place.Nowhere = 0
-
-abbrev pub token-number : TokenKind → ℕ
-token-number TokenKind.LParen = 1
-token-number TokenKind.RParen = 2
-token-number TokenKind.Atom = 3
-token-number TokenKind.Eof = 4
 
 abbrev pub kind-number : Lexed → ℕ
 kind-number (Lexed.Got t) = token-number (t .kind)
@@ -32,3 +30,9 @@ abbrev pub test-number : NameTest → ℕ
 test-number NameTest.Name = 0
 test-number NameTest.Reserved = 3
 test-number NameTest.NotIdentifier = 1
+
+-- Reading alone answers how many rows were stored, 0 after a refusal, and leaves the tables as `parse_surface` does.
+abbrev pub CountsRows : List ℕ → Tables → ℕ → Tables → Type 0
+CountsRows s before rows after =
+    let o = parse s (lengths before) in
+    (rows ≡ rows-read (o .answer)) × (after ≡ o .tables)

@@ -1,12 +1,11 @@
 // The inner layers as plain numbers, for tests in Rust to link: `rt staticlib probe`.
 ghost use mathlib.Core.Path.{_≡_};
 ghost use mathlib.Core.List.{[]};
-ghost use Rattle.loader.specs.Leaving.{lengths-of};
-ghost use Rattle.loader.specs.Parsed.{parse, rows-read};
+ghost use Rattle.surface.specs.Tables.{tables};
 ghost use Rattle.token.specs.Token.{next-token};
 ghost use Rattle.words.specs.Words.{same-bytes, word-index, numeral, name-test};
 ghost use Rattle.utf8.specs.Utf8.{valid-length, byte-order-mark};
-ghost use Rattle.probe.specs.Numbers.{place-number, token-number, kind-number, start-number, end-number, test-number};
+ghost use Rattle.probe.specs.Numbers.{place-number, token-number, kind-number, start-number, end-number, test-number, CountsRows};
 use reader::ModuleRead;
 use token::Lexed;
 use token::Place;
@@ -154,7 +153,7 @@ pub extern "C" fn sulyterom_parse(
     declarations: &mut [u32],
     work: &mut [u32],
 ) -> usize
-    ensures { λ r. ⌜ r ≡ rows-read (parse (now (s .entry)) (lengths-of (now (surface .entry)) [] (now (declarations .entry)) (now (work .entry))) .answer) ⌝ }
+    ensures { λ r. ⌜ CountsRows (now (s .entry)) (tables (now (surface .entry)) [] (now (declarations .entry)) (now (work .entry))) r (tables (now (surface .exit)) [] (now (declarations .exit)) (now (work .exit))) ⌝ }
 {
     let read = loader::parse_surface(s, surface, declarations, work);
     match read {

@@ -60,9 +60,9 @@ module _ (n : ℕ) (Q : ℕ → Result (List Declaration)) (settles : Settles Q)
 
 -- What a call leaves with other words for the declarations: all else of an outcome does not depend on how many there are.
 abbrev declaring : List ℕ → Outcome → Outcome
-declaring t o = leaving (o .answer) (o .surface) (o .core) t (o .work)
+declaring t o = leaving (o .answer) (o .tables .surface) (o .tables .core) t (o .tables .work)
 
-declared-words : (s : List ℕ) (z : Lengths) (r : Result (List Declaration)) → outcome s z r .declarations ≡ pad (z .declarations) (resolved-words s r)
+declared-words : (s : List ℕ) (z : Lengths) (r : Result (List Declaration)) → outcome s z r .tables .declarations ≡ pad (z .declarations) (resolved-words s r)
 declared-words s z (refused x) = refl
 declared-words s z (done ds p) = refl
 
@@ -71,9 +71,9 @@ all-else s z d t (refused x) = refl
 all-else s z d t (done ds p) = refl
 
 abbrev reading-records : List ℕ → Parsed → Parsed
-reading-records t o = parsing-leaves (o .answer) (o .surface) t (o .work)
+reading-records t o = parsing-leaves (o .answer) (o .tables .surface) t (o .tables .work)
 
-words-read : (z : Lengths) (r : Result (List Declaration)) → parsed z r .declarations ≡ pad (z .declarations) (read-words r)
+words-read : (z : Lengths) (r : Result (List Declaration)) → parsed z r .tables .declarations ≡ pad (z .declarations) (read-words r)
 words-read z (refused x) = refl
 words-read z (done ds p) = refl
 
@@ -95,14 +95,14 @@ module _ (s surface core words words₁ work : List ℕ) (n : ℕ) (l : length w
     at-fit : leaving r surface₁ core₁ (front n words words₁) work₁ ≡ outcome s (lent (word-limit n 65535)) (Q (word-limit n 65535))
     at-fit = subst (λ (w : ℕ). leaving r surface₁ core₁ (front n words words₁) work₁ ≡ outcome s (lent (word-limit n w)) (Q (word-limit n w))) l h
 
-    pub outcome-left : leaving r surface₁ core₁ (whole .declarations) work₁ ≡ whole
+    pub outcome-left : leaving r surface₁ core₁ (whole .tables .declarations) work₁ ≡ whole
     outcome-left =
-        ap (declaring (whole .declarations)) at-fit ∙ ap (λ x. declaring (whole .declarations) (outcome s (lent (word-limit n 65535)) x)) (settled n Q settles)
-        ∙ all-else s (lent (n * 5)) (word-limit n 65535) (whole .declarations) (Q (n * 5))
+        ap (declaring (whole .tables .declarations)) at-fit ∙ ap (λ x. declaring (whole .tables .declarations) (outcome s (lent (word-limit n 65535)) x)) (settled n Q settles)
+        ∙ all-else s (lent (n * 5)) (word-limit n 65535) (whole .tables .declarations) (Q (n * 5))
 
-    pub outcome-records : records-of words₁ n ≡ records-of (whole .declarations) n
+    pub outcome-records : records-of words₁ n ≡ records-of (whole .tables .declarations) n
     outcome-records =
-        front-records words words₁ n e ∙ ap (λ (o : Outcome). records-of (o .declarations) n) at-fit
+        front-records words words₁ n e ∙ ap (λ (o : Outcome). records-of (o .tables .declarations) n) at-fit
         ∙ ap (λ t. records-of t n) (declared-words s (lent (word-limit n 65535)) (Q (word-limit n 65535)))
         ∙ list-enough n Q settles (resolved-words s) (resolved-fit n Q settles s (Q (word-limit n 65535)) refl)
         ∙ ap (λ t. records-of t n) (sym (declared-words s (lent (n * 5)) (Q (n * 5))))
@@ -122,16 +122,16 @@ module _ (s surface core words words₁ work : List ℕ) (n : ℕ) (l : length w
     unfolding parse
     read-at-fit = subst (λ (w : ℕ). parsing-leaves r surface₁ (front n words words₁) work₁ ≡ parsed (lent (word-limit n w)) (gives (word-limit n w))) l h
 
-    pub read-left : parsing-leaves r surface₁ (parse s (lent (n * 5)) .declarations) work₁ ≡ parse s (lent (n * 5))
+    pub read-left : parsing-leaves r surface₁ (parse s (lent (n * 5)) .tables .declarations) work₁ ≡ parse s (lent (n * 5))
     unfolding parse
     read-left =
-        ap (reading-records (whole-read .declarations)) read-at-fit ∙ ap (λ x. reading-records (whole-read .declarations) (parsed (lent (word-limit n 65535)) x)) (settled n gives settles)
-        ∙ all-else-read (lent (n * 5)) (word-limit n 65535) (whole-read .declarations) (gives (n * 5))
+        ap (reading-records (whole-read .tables .declarations)) read-at-fit ∙ ap (λ x. reading-records (whole-read .tables .declarations) (parsed (lent (word-limit n 65535)) x)) (settled n gives settles)
+        ∙ all-else-read (lent (n * 5)) (word-limit n 65535) (whole-read .tables .declarations) (gives (n * 5))
 
-    pub records-read : records-of words₁ n ≡ records-of (parse s (lent (n * 5)) .declarations) n
+    pub records-read : records-of words₁ n ≡ records-of (parse s (lent (n * 5)) .tables .declarations) n
     unfolding parse
     records-read =
-        front-records words words₁ n e ∙ ap (λ (o : Parsed). records-of (o .declarations) n) read-at-fit
+        front-records words words₁ n e ∙ ap (λ (o : Parsed). records-of (o .tables .declarations) n) read-at-fit
         ∙ ap (λ t. records-of t n) (words-read (lent (word-limit n 65535)) (gives (word-limit n 65535)))
         ∙ list-enough n gives settles read-words (read-fit n gives settles (gives (word-limit n 65535)) refl)
         ∙ ap (λ t. records-of t n) (sym (words-read (lent (n * 5)) (gives (n * 5))))

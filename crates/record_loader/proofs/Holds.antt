@@ -48,7 +48,7 @@ padded-blank m l k h = zeros-blank (pad m l) k (λ i j. by-test i j (ltb i m) re
 module _ (s : List ℕ) (z : Lengths) (n : ℕ) where
   -- The list of n records that loading leaves.
   abbrev pub list : List R.Declaration
-  list = records-of (load s (with-words z (n * 5)) .declarations) n
+  list = records-of (load s (with-words z (n * 5)) .tables .declarations) n
 
   abbrev result : Result (List Declaration)
   result = loading s (with-words z (n * 5)) start
@@ -57,7 +57,7 @@ module _ (s : List ℕ) (z : Lengths) (n : ℕ) where
   pub refused-blank : (k : ℕ) (r : _) → result ≡ refused r → k < n → getD list k blank ≡ blank
   unfolding load
   refused-blank k r e h =
-      ap (λ x. getD (records-of (outcome s (with-words z (n * 5)) x .declarations) n) k blank) e
+      ap (λ x. getD (records-of (outcome s (with-words z (n * 5)) x .tables .declarations) n) k blank) e
       ∙ list-at (pad (n * 5) []) n k h ∙ padded-blank (n * 5) [] k (omega arith)
 
   module _ (ds : List Declaration) (p : Position) (e : result ≡ done ds p) where
@@ -69,7 +69,7 @@ module _ (s : List ℕ) (z : Lengths) (n : ℕ) where
 
     here : (k : ℕ) → k < n → getD list k blank ≡ record-at (pad (n * 5) (joined stored)) k
     unfolding load
-    here k h = ap (λ x. getD (records-of (outcome s (with-words z (n * 5)) x .declarations) n) k blank) e ∙ list-at (pad (n * 5) (joined stored)) n k h
+    here k h = ap (λ x. getD (records-of (outcome s (with-words z (n * 5)) x .tables .declarations) n) k blank) e ∙ list-at (pad (n * 5) (joined stored)) n k h
 
     -- After acceptance record k has the five words of declaration k.
     pub loaded-record : (k : ℕ) → k < length ds → getD list k blank ≡ five-words (getD stored k []) 0

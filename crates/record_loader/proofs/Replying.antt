@@ -36,7 +36,7 @@ module _ (s surface core words words₁ work : List ℕ) (n : ℕ) (l : length w
         = ap (λ (w : ℕ). asking s (lent (word-limit n w)) i j start) l ∙ settled n (λ d. asking s (lent d) i j start) (asking-settles s i j (lent 0)) in
         let k = outcome-left s surface core words words₁ work n l e (λ d. asking s (lent d) i j start) (asking-settles s i j (lent 0)) _ surface₁ core₁ work₁ (h .1) in (
           subst (λ x. Answers s i j x (dependence-of r)) same (h .0),
-          ap (λ x. leaving x surface₁ core₁ (ask s (lent (n * 5)) i j .declarations) work₁) (sym (ap (λ (o : Outcome). o .answer) k)) ∙ k,
+          ap (λ x. leaving x surface₁ core₁ (ask s (lent (n * 5)) i j .tables .declarations) work₁) (sym (ap (λ (o : Outcome). o .answer) k)) ∙ k,
         )
 
     listed : (question : Question) → Left question → records-of words₁ n ≡ records-of (declared-words s question (lent (n * 5))) n

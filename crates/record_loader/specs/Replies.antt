@@ -51,6 +51,6 @@ Replies s question z core r surface₁ core₁ declarations work = Fitting quest
 
 -- The words that a question leaves for the declarations.
 abbrev pub declared-words : List ℕ → Question → Lengths → List ℕ
-declared-words s Question.Load z = load s z .declarations
-declared-words s Question.Parse z = parse s (without-core z) .declarations
-declared-words s (Question.Depends i j) z = ask s z i j .declarations
+declared-words s Question.Load z = load s z .tables .declarations
+declared-words s Question.Parse z = parse s (without-core z) .tables .declarations
+declared-words s (Question.Depends i j) z = ask s z i j .tables .declarations

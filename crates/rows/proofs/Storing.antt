@@ -1,16 +1,15 @@
 -- Words stored at a place of a table, for any width. Assumes nothing.
 use Prim.Native.Nat.{ℕ, _+_, _*_, _/_, _≤_, _<_}
 use mathlib.Core.Path.{_≡_, sym, ap, _∙_}
-use mathlib.Core.Bool.{Bool, cond}
+use mathlib.Core.Bool.{Bool, true, cond}
 use mathlib.Core.List.{List, _++_}
 use native.Mathlib.Decide.{decLt}
 use native.Mathlib.Numerals.{add-one}
 use native.Mathlib.Omega.{arith}
 use native.Mathlib.Nat.{le-div-iff-mul-le, suc-mul}
 use lib.ListN.{length, take, drop}
-use borrow.Author.Tests.{lt-ltb, le-ltb, le-leb}
-use Rattle.tables.specs.Tables.{fits, with-words, stored}
-use Rattle.tables.proofs.Storing.{stored-fits}
+use borrow.Author.Tests.{lt-ltb, le-ltb}
+use Rattle.tables.specs.Tables.{with-words}
 use Rattle.tables.proofs.Stored as tables
 use Rattle.rows.specs.Places.{has-place, stored-at}
 
@@ -27,12 +26,9 @@ module _ (width : ℕ) (t : List ℕ) (k : ℕ) (ws : List ℕ) where
     unfolding stored-at
     stored-at-place = ap (λ (b : Bool). cond b (with-words t (k * width) ws) t) (lt-ltb k (length t / width) h)
 
-    -- What `tables::store` answers and leaves.
-    pub stored-there : (fits t (k * width) ws ≡ has-place width t k) × (stored t (k * width) ws ≡ stored-at width t k ws)
-    stored-there = (
-      le-leb (k * width + length ws) (length t) place-fits ∙ sym (lt-ltb k (length t / width) h),
-      stored-fits t (k * width) ws place-fits ∙ sym stored-at-place,
-    )
+    -- What is answered and left where there is a place.
+    pub stored-there : (true ≡ has-place width t k) × (with-words t (k * width) ws ≡ stored-at width t k ws)
+    stored-there = (sym (lt-ltb k (length t / width) h), sym stored-at-place)
 
     next-place : k * width + length ws ≡ (k + 1) * width
     next-place = simp (add-one, suc-mul, n)

@@ -1,9 +1,11 @@
 -- The words of a row: the arguments that are there, and 0 for the others. Assumes nothing.
 use Prim.Native.Nat.{ℕ, zero, suc, _≤_}
-use mathlib.Core.Path.{_≡_, refl, sym, ap, _∙_}
+use native.Mathlib.Omega.{arith}
+use mathlib.Core.Path.{_≡_, refl, sym, ap, ap₂, _∙_}
 use mathlib.Core.Bool.{Bool, true, false, cond}
 use mathlib.Core.List.{List, [], _∷_, _++_}
-use lib.ListN.{length, getD, List·getD-eq-default}
+use lib.ListN.{length, getD, take, List·getD-eq-default}
+use lib.Seq.{take-all}
 use Rattle.terms.specs.Rows.{pad, row}
 
 pub length-pad : (n : ℕ) (l : List ℕ) → length (pad n l) ≡ n
@@ -32,6 +34,28 @@ pub pad-words : (n : ℕ) (l : List ℕ) → pad n l ≡ words-from 0 n l
 pad-words zero l = refl
 pad-words (suc n) [] = sym (words-of-none 0 (suc n))
 pad-words (suc n) (x ∷ l) = ap (λ (w : List ℕ). x ∷ w) (pad-words n l ∙ sym (words-behind x 0 n l))
+
+-- A list of six words by its words.
+abbrev six-of : List ℕ → List ℕ
+six-of l = getD l 0 0 ∷ getD l 1 0 ∷ getD l 2 0 ∷ getD l 3 0 ∷ getD l 4 0 ∷ getD l 5 0 ∷ []
+
+six : (l : List ℕ) → length l ≡ 6 → l ≡ six-of l
+six (a ∷ b ∷ c ∷ d ∷ e ∷ f ∷ []) h = refl
+six [] h = absurd (omega arith)
+six (a ∷ []) h = absurd (omega arith)
+six (a ∷ b ∷ []) h = absurd (omega arith)
+six (a ∷ b ∷ c ∷ []) h = absurd (omega arith)
+six (a ∷ b ∷ c ∷ d ∷ []) h = absurd (omega arith)
+six (a ∷ b ∷ c ∷ d ∷ e ∷ []) h = absurd (omega arith)
+six (a ∷ b ∷ c ∷ d ∷ e ∷ f ∷ g ∷ l) h = absurd (omega arith)
+
+-- The first n of six words, and 0 for the others.
+module _ (l : List ℕ) (h : length l ≡ 6) (n : ℕ) where
+  pub first-words : (k : ℕ) → n ≡ k → pad 6 (take k (six-of l)) ≡ pad 6 (take n l)
+  first-words k e = sym (ap₂ (λ (m : ℕ) (x : List ℕ). pad 6 (take m x)) e (six l h))
+
+  pub all-words : 6 ≤ n → l ≡ pad 6 (take n l)
+  all-words k = six l h ∙ sym (ap (pad 6) (take-all n l (omega arith) ∙ six l h))
 
 module _ (k start n : ℕ) (l : List ℕ) where
   abbrev fields : Bool → List ℕ

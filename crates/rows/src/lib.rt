@@ -5,9 +5,9 @@ ghost use mathlib.Core.Path.{_≡_};
 ghost use mathlib.Core.Bool.{cond};
 ghost use mathlib.Core.List.{[], _∷_, _++_};
 ghost use lib.Dec.{eqb};
-ghost use lib.ListN.{getD, take};
+ghost use lib.ListN.{take};
 ghost use Rattle.terms.specs.Forms.{universe, arity-of, holds-span};
-ghost use Rattle.terms.specs.Rows.{row, surface-row};
+ghost use Rattle.terms.specs.Rows.{pad, row, surface-row};
 ghost use Rattle.rows.specs.Places.{has-place, stored-at};
 
 // How many arguments a term of each kind has: octal digits, the last one for kind 3. An array would be copied where it is read.
@@ -38,32 +38,30 @@ pub fn holds_span(kind: u32) -> bool
     (SPANS >> kind) % 2 == 1
 }
 
-// Argument i of the first len; 0 where there is none.
-fn arg_or_zero(args: [u32; 6], len: u32, i: usize) -> u32
-    ensures { λ r. ⌜ r ≡ getD (take len args) i 0 ⌝ }
+// The first len arguments, and 0 for the others: one choice for all of them.
+fn first_args(args: [u32; 6], len: u32) -> [u32; 6]
+    ensures { λ r. ⌜ r ≡ pad 6 (take len args) ⌝ }
 {
-    if i < 6 {
-        if i < len as usize {
-            return args[i];
-        }
+    match len {
+        0 => [0, 0, 0, 0, 0, 0],
+        1 => [args[0], 0, 0, 0, 0, 0],
+        2 => [args[0], args[1], 0, 0, 0, 0],
+        3 => [args[0], args[1], args[2], 0, 0, 0],
+        4 => [args[0], args[1], args[2], args[3], 0, 0],
+        5 => [args[0], args[1], args[2], args[3], args[4], 0],
+        _ => args,
     }
-    0
 }
 
 // The kind, the span if the row has one, and the first len arguments.
 fn row_words(kind: u32, span: bool, start: u32, length: u32, args: [u32; 6], len: u32) -> [u32; 8]
     ensures { λ r. ⌜ r ≡ row kind (cond span (start ∷ length ∷ []) [] ++ take len args) ⌝ }
 {
-    let a0 = arg_or_zero(args, len, 0);
-    let a1 = arg_or_zero(args, len, 1);
-    let a2 = arg_or_zero(args, len, 2);
-    let a3 = arg_or_zero(args, len, 3);
-    let a4 = arg_or_zero(args, len, 4);
+    let a = first_args(args, len);
     if span {
-        return [kind, start, length, a0, a1, a2, a3, a4];
+        return [kind, start, length, a[0], a[1], a[2], a[3], a[4]];
     }
-    let a5 = arg_or_zero(args, len, 5);
-    [kind, a0, a1, a2, a3, a4, a5, 0]
+    [kind, a[0], a[1], a[2], a[3], a[4], a[5], 0]
 }
 
 pub fn surface_row(label: Label, args: [u32; 6], len: u32) -> [u32; 8]
@@ -94,7 +92,8 @@ pub fn store_row(table: &mut [u32], k: usize, row: [u32; 8]) -> bool
 {
     if k < table.len() / 8 {
         let at = k * 8;
-        return tables::store(table, at, &row);
+        tables::put(table, at, &row);
+        return true;
     }
     false
 }
@@ -106,7 +105,8 @@ pub fn store_record(table: &mut [u32], k: usize, record: [u32; 5]) -> bool
 {
     if k < table.len() / 5 {
         let at = k * 5;
-        return tables::store(table, at, &record);
+        tables::put(table, at, &record);
+        return true;
     }
     false
 }

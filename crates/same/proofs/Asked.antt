@@ -11,8 +11,8 @@ use Rattle.surface.specs.Loading.{Lengths, Outcome, load}
 use Rattle.loader.specs.Leaving.{lengths-of, leaving}
 use Rattle.loader.proofs.Cleared.{cleared-whole}
 use Rattle.same.specs.declared.Comparison.{Comparison}
-use Rattle.same.specs.Comparison.{Compares, Answers, Tables, tables, loaded, blank, left, Asked}
-use Rattle.same.specs.Contents.{Compared}
+use Rattle.same.specs.Comparison.{Compares, Answers, Tables, tables, blank, left, Asked}
+use Rattle.same.specs.inner.Contents.{Compared}
 use Rattle.same.proofs.SameModules.{CompareModules, modules-compared}
 use Rattle.same.proofs.Loaded.{load-work, load-refused, Accepted, accepted}
 
@@ -74,7 +74,7 @@ module _ (s t surface₁ core₁ declarations₁ surface₂ core₂ declarations
     one-answer c f = ap (λ (o : Outcome). o .answer) (sym e) ∙ f
 
     work-clear : work₃ ≡ pad (length work) []
-    work-clear = ap (λ (o : Outcome). o .work) e ∙ load-work s y
+    work-clear = ap (λ (o : Outcome). o .tables .work) e ∙ load-work s y
 
     pub asked-first : (r : Refusal) → b ≡ Answer.Refused r → (surface₄ core₄ declarations₄ : List ℕ)
         → surface₄ ≡ cleared surface₂ 0 → core₄ ≡ cleared core₂ 0 → declarations₄ ≡ cleared declarations₂ 0
@@ -82,7 +82,7 @@ module _ (s t surface₁ core₁ declarations₁ surface₂ core₂ declarations
     asked-first r f surface₄ core₄ declarations₄ g h i =
         promised s t y z (Answer.Refused r) (load t z .answer) _ _ _ (one-answer (Answer.Refused r) f) refl (
           refl,
-          ap loaded e ∙ load-refused s y r (one-answer (Answer.Refused r) f),
+          ap (λ (o : Outcome). o .tables) e ∙ load-refused s y r (one-answer (Answer.Refused r) f),
           clear-all surface₄ core₄ declarations₄ work₃ surface₂ core₂ declarations₂ z g h i work-clear refl refl refl,
         )
 
@@ -96,7 +96,7 @@ module _ (s t surface₁ core₁ declarations₁ surface₂ core₂ declarations
       other-answer d h = ap (λ (o : Outcome). o .answer) (sym other) ∙ h
 
       work-clear-again : work₄ ≡ pad (length work) []
-      work-clear-again = ap (λ (o : Outcome). o .work) other ∙ load-work t z
+      work-clear-again = ap (λ (o : Outcome). o .tables .work) other ∙ load-work t z
 
       pub asked-second : (r : Refusal) → c ≡ Answer.Refused r → (surface₅ core₅ declarations₅ : List ℕ)
           → length surface₃ ≡ length surface₁ → length core₃ ≡ length core₁ → length declarations₃ ≡ length declarations₁
@@ -106,7 +106,7 @@ module _ (s t surface₁ core₁ declarations₁ surface₂ core₂ declarations
           promised s t y z (Answer.Loaded m n) (Answer.Refused r) _ _ _ (one-answer (Answer.Loaded m n) f) (other-answer (Answer.Refused r) h) (
             refl,
             clear-all surface₅ core₅ declarations₅ work₄ surface₃ core₃ declarations₃ y u v w work-clear-again p q o,
-            ap loaded other ∙ load-refused t z r (other-answer (Answer.Refused r) h),
+            ap (λ (o : Outcome). o .tables) other ∙ load-refused t z r (other-answer (Answer.Refused r) h),
           )
 
       pub one-accepted : Accepted s core₃ declarations₃ n
@@ -118,6 +118,6 @@ module _ (s t surface₁ core₁ declarations₁ surface₂ core₂ declarations
           let x = accepted t z o p surface₄ core₄ declarations₄ work₄ (ap (λ (d : Answer). leaving d surface₄ core₄ declarations₄ work₄) (sym h) ∙ other) in
           promised s t y z (Answer.Loaded m n) (Answer.Loaded o p) a _ _ (one-answer (Answer.Loaded m n) f) (other-answer (Answer.Loaded o p) h) (
             compared s t core₃ declarations₃ core₄ declarations₄ n p one-accepted x a q,
-            ap (tables surface₃ core₃ declarations₃) (work-clear-again ∙ sym work-clear) ∙ ap loaded e,
-            ap loaded other,
+            ap (tables surface₃ core₃ declarations₃) (work-clear-again ∙ sym work-clear) ∙ ap (λ (o : Outcome). o .tables) e,
+            ap (λ (o : Outcome). o .tables) other,
           )

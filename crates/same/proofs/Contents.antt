@@ -10,7 +10,7 @@ use lib.ListN.{getD, drop}
 use Rattle.terms.specs.Forms.{universe}
 use Rattle.terms.specs.Label.{Name, part}
 use Rattle.terms.specs.Content.{RowContent, row-content, RecordContent}
-use Rattle.same.specs.Contents.{Decides, words-at, atom-at, row-at, SameRow, SameRecord}
+use Rattle.same.specs.inner.Contents.{Decides, words-at, atom-at, row-at, SameRow, SameRecord}
 
 -- A test of one thing is a test of another that holds exactly where it does.
 pub decides : {P Q : Type 0} (r : Bool) → (P → Q) → (Q → P) → Decides r P → Decides r Q

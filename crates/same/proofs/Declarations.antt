@@ -9,8 +9,8 @@ use native.Mathlib.Decide.{decLt}
 use native.Mathlib.Numerals.{add-one}
 use lib.ListN.{getD}
 use borrow.Author.Count.{below-more}
-use Rattle.depends.specs.Search.{row-behind, first-row}
-use Rattle.same.specs.Contents.{Decides, SameRows, SameRecord, SameDeclaration, SameBefore, FirstDifferent}
+use Rattle.depends.specs.inner.Search.{row-behind, first-row}
+use Rattle.same.specs.inner.Contents.{Decides, SameRows, SameRecord, SameDeclaration, SameBefore, FirstDifferent}
 use Rattle.same.proofs.Contents.{decides, holds, fails}
 
 module _ (s core₁ declarations₁ t core₂ declarations₂ : List ℕ) where

@@ -1,19 +1,20 @@
 -- DEMAND 3 in the answer of `same`: `Same` exactly if the two sources agree, `Different k` exactly if they part at k. Assumes nothing.
 use Prim.Native.Nat.{ℕ, zero, suc}
 use mathlib.Core.Path.{_≡_, refl, sym, ap, _∙_, subst, subst₂}
-use mathlib.Core.Logic.{_↔_}
+use mathlib.Core.Logic.{inl, inr}
 use mathlib.Core.List.{List, [], _∷_, map}
 use Rattle.terms.specs.Label.{Declaration, NamedDeclaration, named-declaration}
 use Rattle.terms.specs.Agreement.{AgreeModule}
 use Rattle.surface.specs.declared.Answer.{Answer}
 use Rattle.surface.specs.Grammar.{Derives}
 use Rattle.surface.specs.Loading.{Lengths, load}
-use Rattle.surface.specs.SameCore.{SameCore, Accepts}
+use Rattle.surface.specs.SameCore.{Accepts}
 use Rattle.surface.specs.Agreement.{Agreement}
 use Rattle.surface.proofs.CompleteModule.{unique}
-use Rattle.surface.proofs.Demand.{demand-3}
+use Rattle.surface.proofs.Demand.{by-definition}
 use Rattle.same.specs.declared.Comparison.{Comparison}
-use Rattle.same.specs.Comparison.{PartAt, Parting, Compares, Answers, Tables, Asked}
+use Rattle.same.specs.Comparison.{PartAt, Parting, Compares, Answers, Tables, Asked, report-comparison}
+use Rattle.same.specs.Statements.{AnswersExactly, SameCoreExactly, ComparingReports, CompareReports}
 
 -- Two modules part at one place only, and only if they do not agree.
 part-once : (j k : ℕ) (l m : List NamedDeclaration) → PartAt j l m → PartAt k l m → j ≡ k
@@ -72,22 +73,31 @@ module _ (s t : List ℕ) where
   determined (Answer.Loaded m n) (Answer.Refused r) a d p q = p ∙ sym q
   determined (Answer.Loaded m n) (Answer.Loaded o r) a d p q = one-answer a d p q
 
-  -- Of any call whose two sources are loaded, with tables of any lengths.
-  module _ (y z : Lengths) (a : Comparison) (x w : Tables) (p : Asked s t y z a x w) (f : Accepts (load s y)) (g : Accepts (load t z)) where
-    compares : Compares s t a
-    compares = subst₂ (λ (b c : Answer). Answers s t b c a) (f .2) (g .2) (p .answers)
+compares : (s t : List ℕ) (y z : Lengths) (a : Comparison) (x w : Tables) → Asked s t y z a x w → Accepts (load s y) → Accepts (load t z) → Compares s t a
+compares s t y z a x w p f g = subst₂ (λ (b c : Answer). Answers s t b c a) (f .2) (g .2) (p .answers)
 
-    pub exactly : (b : Comparison) → (a ≡ b) ↔ Compares s t b
-    exactly b = (λ e. subst (Compares s t) e compares, λ h. one-answer a b compares h)
+pub answers-exactly : AnswersExactly
+answers-exactly s t y z a x w p f g b =
+    let c = compares s t y z a x w p f g in
+    (λ e. subst (Compares s t) e c, λ h. one-answer s t a b c h)
 
-    pub same-exactly : (a ≡ Comparison.Same) ↔ Agreement s t
-    same-exactly = exactly Comparison.Same
+pub same-core-exactly : SameCoreExactly
+same-core-exactly s t y z a x w p f g =
+    let d = by-definition s t y z f g in
+    let h = answers-exactly s t y z a x w p f g Comparison.Same in
+    (λ e. d .1 (h .0 e), λ c. h .1 (d .0 c))
 
-    pub different-exactly : (k : ℕ) → (a ≡ Comparison.Different k) ↔ Parting k s t
-    different-exactly k = exactly (Comparison.Different k)
+module _ (s t : List ℕ) where
+  both-report : (a : Comparison) (i j l m : ℕ) → Compares s t a → ComparingReports s t (Answer.Loaded i j) (Answer.Loaded l m) (report-comparison a)
+  both-report Comparison.Same i j l m h = inl (refl, h)
+  both-report (Comparison.Different k) i j l m h = inr (k, refl, h)
+  both-report (Comparison.FirstRefused r) i j l m h = absurd h
+  both-report (Comparison.SecondRefused r) i j l m h = absurd h
 
-    -- .. and so exactly if what the two loads leave is the same core.
-    pub same-core-exactly : (a ≡ Comparison.Same) ↔ SameCore s (load s y) t (load t z)
-    same-core-exactly =
-        let d = demand-3 s t y z f g in
-        (λ e. d .1 (same-exactly .0 e), λ h. same-exactly .1 (d .0 h))
+  reports : (b c : Answer) (a : Comparison) → Answers s t b c a → ComparingReports s t b c (report-comparison a)
+  reports (Answer.Refused r) c a h = ap report-comparison h
+  reports (Answer.Loaded i j) (Answer.Refused r) a h = ap report-comparison h
+  reports (Answer.Loaded i j) (Answer.Loaded l m) a h = both-report a i j l m h
+
+pub compare-reports : CompareReports
+compare-reports s t y z a x w p = reports s t (load s y .answer) (load t z .answer) a (p .answers)

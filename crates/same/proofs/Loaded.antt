@@ -7,6 +7,7 @@ use lib.ListN.{length}
 use Rattle.token.specs.declared.Refusal.{Refusal}
 use Rattle.terms.specs.Label.{Declaration, named-declaration}
 use Rattle.terms.specs.Rows.{pad}
+use Rattle.terms.proofs.Widths.{total-surface}
 use Rattle.surface.specs.declared.Answer.{Answer}
 use Rattle.surface.specs.Grammar.{Derives}
 use Rattle.surface.specs.Reader.{start, Result, done, refused}
@@ -17,14 +18,14 @@ use Rattle.surface.proofs.Acceptance.{is-read, is-loaded}
 use Rattle.surface.proofs.KeptLengths.{outcome-keeps}
 use Rattle.surface.proofs.Demand.{Contents, contents}
 use Rattle.loader.specs.Leaving.{leaving}
-use Rattle.same.specs.Comparison.{loaded, blank}
+use Rattle.same.specs.Comparison.{blank}
 use Rattle.same.proofs.ModuleTables.{count-is, hold}
 use Rattle.same.proofs.SameModules.{Side}
 
 -- The tables have room for what the answer counts.
 pub record Room (o : Outcome) : Type 0 where
-  pub rows : row-count (o .answer) * 8 ≤ length (o .core)
-  pub records : declaration-count (o .answer) * 5 ≤ length (o .declarations)
+  pub rows : row-count (o .answer) * 8 ≤ length (o .tables .core)
+  pub records : declaration-count (o .answer) * 5 ≤ length (o .tables .declarations)
 
 load-room : (s : List ℕ) (z : Lengths) → Room (load s z)
 unfolding load
@@ -36,24 +37,24 @@ load-room s z = go (loading s z start) refl
         let r = is-read s z ds q (is-loaded s z ds q e .read) in
         let k = outcome-keeps s z (done ds q) in
         record {
-          rows = omega (arith, k .core, r .rows, r .enough .core);
+          rows = omega (arith, k .core, r .rows, r .enough .core, total-surface 0 ds);
           records = omega (arith, k .declarations, r .enough .declarations);
         }
 
 -- A call leaves the work area 0, and after a refusal the other tables too.
-pub load-work : (s : List ℕ) (z : Lengths) → load s z .work ≡ pad (z .work) []
+pub load-work : (s : List ℕ) (z : Lengths) → load s z .tables .work ≡ pad (z .work) []
 unfolding load
 load-work s z = go (loading s z start)
   where
-    go : (r : Result (List Declaration)) → outcome s z r .work ≡ pad (z .work) []
+    go : (r : Result (List Declaration)) → outcome s z r .tables .work ≡ pad (z .work) []
     go (refused x) = refl
     go (done ds q) = refl
 
-pub load-refused : (s : List ℕ) (z : Lengths) (x : Refusal) → load s z .answer ≡ Answer.Refused x → loaded (load s z) ≡ blank z
+pub load-refused : (s : List ℕ) (z : Lengths) (x : Refusal) → load s z .answer ≡ Answer.Refused x → load s z .tables ≡ blank z
 unfolding load
 load-refused s z x = go (loading s z start)
   where
-    go : (r : Result (List Declaration)) → outcome s z r .answer ≡ Answer.Refused x → loaded (outcome s z r) ≡ blank z
+    go : (r : Result (List Declaration)) → outcome s z r .answer ≡ Answer.Refused x → outcome s z r .tables ≡ blank z
     go (refused y) e = refl
     go (done ds q) e = absurd (let n : _≡_ {A = ℕ} 0 1 = cc in omega arith)
 

@@ -7,13 +7,13 @@ use native.Mathlib.Nat.{suc-mul, zero-mul, zero-add}
 use native.Mathlib.Numerals.{add-one}
 use lib.ListN.{length, getD, take, drop, List·getD-append, List·getD-map, length-map, length-take, length-append}
 use lib.Seq.{drop-cons, drop-drop, getD-take}
-use Rattle.depends.specs.Search.{row-behind, first-row}
+use Rattle.depends.specs.inner.Search.{row-behind, first-row}
 use Rattle.terms.specs.Label.{NamedDeclaration}
 use Rattle.terms.specs.Rows.{first-rows}
 use Rattle.terms.specs.Content.{RowContent, row-content, RecordContent, record-content}
 use Rattle.terms.proofs.Tables.{length-first-rows}
 use Rattle.terms.proofs.NamedModule.{ShapedModule, cores, rows-of, records-of}
-use Rattle.same.specs.Contents.{words-at, row-at, record-at}
+use Rattle.same.specs.inner.Contents.{words-at, row-at, record-at}
 use Rattle.same.proofs.Prefixes.{no-record, length-records, records-take, rows-split, behind-of, behind-rows}
 
 abbrev pub no-row : RowContent

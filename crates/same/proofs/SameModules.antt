@@ -7,7 +7,7 @@ use native.Mathlib.Decide.{decLt}
 use native.Mathlib.Omega.{arith}
 use lib.ListN.{length, getD, take, length-take}
 use lib.Seq.{take-length, length-take-le, ext-getD}
-use Rattle.depends.specs.Search.{first-row}
+use Rattle.depends.specs.inner.Search.{first-row}
 use Rattle.terms.specs.Label.{NamedDeclaration}
 use Rattle.terms.specs.Content.{RowContent, RecordContent}
 use Rattle.terms.specs.Agreement.{AgreeModule}
@@ -15,7 +15,7 @@ use Rattle.terms.proofs.NamedModule.{ShapedModule, cores, resolves, rows-of}
 use Rattle.terms.proofs.SameContents.{SameContents, same-contents}
 use Rattle.same.specs.declared.Comparison.{Comparison}
 use Rattle.same.specs.Comparison.{PartAt}
-use Rattle.same.specs.Contents.{SameRow, SameRecord, SameBefore, FirstDifferent, Compared}
+use Rattle.same.specs.inner.Contents.{SameRow, SameRecord, SameBefore, FirstDifferent, Compared}
 use Rattle.same.proofs.Prefixes.{no-record, take-shaped, take-resolves, length-records, behind-of}
 use Rattle.same.proofs.ModuleTables.{no-row, Hold, hold-first, behind-is, first-row-is}
 

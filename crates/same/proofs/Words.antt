@@ -8,7 +8,7 @@ use native.Mathlib.Nat.{add-zero}
 use lib.ListN.{length, getD}
 use Rattle.words.specs.Words.{same-bytes}
 use Rattle.words.proofs.Names.{same-eq, same-ne}
-use Rattle.same.specs.Contents.{Decides, words-at}
+use Rattle.same.specs.inner.Contents.{Decides, words-at}
 
 pub length-words : (n : ℕ) (t : List ℕ) (i : ℕ) → length (words-at n t i) ≡ n
 length-words zero t i = refl

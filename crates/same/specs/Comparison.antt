@@ -2,13 +2,15 @@
 use mathlib.Core.Path.{_≡_}
 use mathlib.Core.List.{List, [], _∷_, map}
 use Prim.Native.Nat.{ℕ, zero, suc}
+use Rattle.token.specs.declared.Refusal.{Refusal}
 use Rattle.terms.specs.Label.{Declaration, NamedDeclaration, named-declaration}
 use Rattle.terms.specs.Agreement.{AgreeDeclaration}
-use Rattle.terms.specs.Rows.{pad}
 use Rattle.surface.specs.declared.Answer.{Answer}
 use Rattle.surface.specs.Grammar.{Derives}
 use Rattle.surface.specs.Agreement.{Agreement}
-use Rattle.surface.specs.Loading.{Lengths, Outcome, load, offsets, Report}
+pub use Rattle.surface.specs.Tables.{Lengths, Tables, tables, blank}
+use Rattle.surface.specs.Reports.{Report, accepted, offsets}
+use Rattle.surface.specs.Loading.{Outcome, load}
 use Rattle.same.specs.declared.Comparison.{Comparison}
 
 -- Ours: two modules part at place k if the declarations before k agree, the first with the first and so on, in document 01's meaning, and
@@ -43,30 +45,12 @@ Answers s t (Answer.Refused r) b a = a ≡ Comparison.FirstRefused r
 Answers s t (Answer.Loaded m n) (Answer.Refused r) a = a ≡ Comparison.SecondRefused r
 Answers s t (Answer.Loaded m n) (Answer.Loaded o p) a = Compares s t a
 
--- A set of tables; the work area belongs to both.
-pub record Tables : Type 0 where
-  pub surface : List ℕ
-  pub core : List ℕ
-  pub declarations : List ℕ
-  pub work : List ℕ
-
-abbrev pub tables : List ℕ → List ℕ → List ℕ → List ℕ → Tables
-tables surface core declarations work = record { surface = surface; core = core; declarations = declarations; work = work }
-
--- As loading leaves them.
-abbrev pub loaded : Outcome → Tables
-loaded o = tables (o .surface) (o .core) (o .declarations) (o .work)
-
--- All 0.
-abbrev pub blank : Lengths → Tables
-blank z = tables (pad (z .surface) []) (pad (z .core) []) (pad (z .declarations) []) (pad (z .work) [])
-
 -- Ours: a yes or a no leaves both sets of tables as loading leaves them; a refusal leaves both all 0. By the two answers, the tables
 -- of the lengths z that the loading o fills.
 abbrev pub left : Lengths → Outcome → Answer → Answer → Tables
 left z o (Answer.Refused r) b = blank z
 left z o (Answer.Loaded m n) (Answer.Refused r) = blank z
-left z o (Answer.Loaded m n) (Answer.Loaded p q) = loaded o
+left z o (Answer.Loaded m n) (Answer.Loaded p q) = o .tables
 
 -- What is promised of a call with the sources s and t, tables of the lengths y and z, its answer a, and the tables x and w that it leaves.
 pub record Asked (s t : List ℕ) (y z : Lengths) (a : Comparison) (x w : Tables) : Type 0 where
@@ -76,8 +60,11 @@ pub record Asked (s t : List ℕ) (y z : Lengths) (a : Comparison) (x w : Tables
 
 -- Numbers and values for each case of the answer, as document 01 has them for its own: 0 and nothing for the same core, 0 and the place
 -- where they part; for a refusal its class, which source it is about, 1 or 2, and its offset if it has one.
+abbrev pub report-refused : ℕ → Refusal → Report
+report-refused source r = record { number = r .class; values = source ∷ offsets (r .place) }
+
 abbrev pub report-comparison : Comparison → Report
-report-comparison Comparison.Same = record { number = 0; values = [] }
-report-comparison (Comparison.Different k) = record { number = 0; values = k ∷ [] }
-report-comparison (Comparison.FirstRefused r) = record { number = r .class; values = 1 ∷ offsets (r .place) }
-report-comparison (Comparison.SecondRefused r) = record { number = r .class; values = 2 ∷ offsets (r .place) }
+report-comparison Comparison.Same = accepted []
+report-comparison (Comparison.Different k) = accepted (k ∷ [])
+report-comparison (Comparison.FirstRefused r) = report-refused 1 r
+report-comparison (Comparison.SecondRefused r) = report-refused 2 r

@@ -1,2 +1,3 @@
 pub mod Comparison
-pub mod Contents
+pub mod Statements
+pub mod inner

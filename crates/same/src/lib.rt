@@ -11,9 +11,9 @@ ghost use mathlib.Core.Path.{_≡_};
 ghost use Prim.Native.Nat.{_+_, _*_, _≤_, _<_};
 ghost use lib.ListN.{length};
 ghost use Rattle.tables.specs.Tables.{cleared};
-ghost use Rattle.loader.specs.Leaving.{lengths-of};
-ghost use Rattle.same.specs.Contents.{Decides, words-at, atom-at, SameRow, SameRows, SameRecord, SameDeclaration, FirstDifferent, Compared};
-ghost use Rattle.same.specs.Comparison.{tables, Asked};
+ghost use Rattle.surface.specs.Tables.{tables, lengths};
+ghost use Rattle.same.specs.inner.Contents.{Decides, words-at, atom-at, SameRow, SameRows, SameRecord, SameDeclaration, FirstDifferent, Compared};
+ghost use Rattle.same.specs.Comparison.{Asked};
 
 pub enum Comparison {
     Same,
@@ -190,7 +190,7 @@ pub fn same(
     declarations2: &mut [u32],
     work: &mut [u32],
 ) -> Comparison
-    ensures { λ r. ⌜ Asked (now (first .entry)) (now (second .entry)) (lengths-of (now (surface1 .entry)) (now (core1 .entry)) (now (declarations1 .entry)) (now (work .entry))) (lengths-of (now (surface2 .entry)) (now (core2 .entry)) (now (declarations2 .entry)) (now (work .entry))) r (tables (now (surface1 .exit)) (now (core1 .exit)) (now (declarations1 .exit)) (now (work .exit))) (tables (now (surface2 .exit)) (now (core2 .exit)) (now (declarations2 .exit)) (now (work .exit))) ⌝ }
+    ensures { λ r. ⌜ Asked (now (first .entry)) (now (second .entry)) (lengths (tables (now (surface1 .entry)) (now (core1 .entry)) (now (declarations1 .entry)) (now (work .entry)))) (lengths (tables (now (surface2 .entry)) (now (core2 .entry)) (now (declarations2 .entry)) (now (work .entry)))) r (tables (now (surface1 .exit)) (now (core1 .exit)) (now (declarations1 .exit)) (now (work .exit))) (tables (now (surface2 .exit)) (now (core2 .exit)) (now (declarations2 .exit)) (now (work .exit))) ⌝ }
 {
     let one = load(first, surface1, core1, declarations1, work);
     match one {

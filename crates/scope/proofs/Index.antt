@@ -1,13 +1,13 @@
--- The index of names: one more byte, one more declaration, and the walk from a head along the links. Assumes nothing.
-use Prim.Native.Nat.{ℕ, zero, suc, _+_, _-_, _*_, _/_, _%_, _≤_, _<_}
+-- The index of names: one more byte, the walk from a head along the links, and one more declaration. Assumes nothing.
+use Prim.Native.Nat.{ℕ, zero, suc, _+_, _*_, _/_, _%_, _^_, _≤_, _<_}
 use mathlib.Core.Path.{_≡_, refl, sym, _∙_, ap, subst}
 use mathlib.Core.List.{List, [], _∷_}
 use mathlib.Core.Option.{Option, none, some}
 use mathlib.Core.Bool.{Bool, true, false}
 use native.Mathlib.Omega.{arith}
-use native.Mathlib.Decide.{ℕ-discrete, decLe}
-use native.Mathlib.Nat.{mod-lt, div-lt-iff-lt-mul}
-use lib.ListN.{length, getD, set, drop, replicate, drop-of-length-le, length-set, length-replicate, getD-replicate}
+use native.Mathlib.Decide.{ℕ-discrete}
+use native.Mathlib.Nat.{mod-lt, div-lt-iff-lt-mul, zero-div}
+use lib.ListN.{length, getD, set, drop, drop-of-length-le, length-set, List·getD-eq-default}
 use lib.Seq.{getD-set-same, getD-set-other}
 use Rattle.token.proofs.Runs.{drop-next}
 use Rattle.words.specs.Words.{same-bytes}
@@ -15,7 +15,8 @@ use Rattle.words.proofs.Names.{eq-same, same-eq, same-ne, ne-same}
 use Rattle.terms.specs.Label.{Name}
 use Rattle.terms.specs.Resolution.{next-number, find}
 use Rattle.scope.specs.Scope.{declared-names}
-use Rattle.scope.specs.Index.{mixed, mark-of, name-at, mark-at, Last, Entered, Indexed}
+use Rattle.scope.specs.Index.{heads, places, all-slots, mixed, mark-of, bit-of, link-of, Way, here, further, name-at, Entered, Indexed, Open, Searched}
+use Rattle.scope.specs.declared.Slot.{Slot}
 
 module _ (x : Name) (i m : ℕ) where
   pub mixed-more : i < length x → mixed m (drop i x) ≡ mixed ((m + getD x i 0) * 374761393 % 4294967296) (drop (i + 1) x)
@@ -38,6 +39,14 @@ marked x m e = ap (λ (n : ℕ). n / 1048576) e
 pub mark-low : (x : Name) → mark-of x < 4096
 unfolding mark-of
 mark-low x = div-lt-iff-lt-mul {k = 1048576} {x = mixed 0 x} {y = 4096} (omega arith) .1 (omega (arith, mixed-low x 0 (omega arith)))
+
+pub bit-low : (x : Name) (i : ℕ) → bit-of x i < 2
+unfolding bit-of
+bit-low x i = mod-lt (getD x (i / 8) 0 / 2 ^ (i % 8)) (omega arith)
+
+pub bit-behind : (x : Name) (i : ℕ) → length x ≤ i / 8 → bit-of x i ≡ 0
+unfolding bit-of
+bit-behind x i h = ap (λ (b : ℕ). b / 2 ^ (i % 8) % 2) (List·getD-eq-default x 0 h) ∙ ap (λ (b : ℕ). b % 2) (zero-div (2 ^ (i % 8)))
 
 -- None of d declarations from place k on has the name.
 none-named : (x : Name) (s t : List ℕ) (k d : ℕ) → ((j : ℕ) → k ≤ j → j < k + d → x ≡ name-at s t j → ⊥) → none ≡ find x (declared-names s t k d)
@@ -73,122 +82,112 @@ not-found x s t (suc d) k n j l h e = by-test (same-bytes x (name-at s t k)) ref
           | no p ↦ f (next-none (find x (declared-names s t (suc k) d)) (rw (find, q) at n)) (omega arith) (omega arith) e
         ]
 
+-- Where an empty slot is filled, each walk goes as it went: none passes through it.
+filled : (index : List ℕ) (slot v : ℕ) → getD index slot 0 ≡ 0 → (at n : ℕ) → getD index at 0 ≡ n + 1 → getD (set index slot v) at 0 ≡ n + 1
+filled index slot v z at n e = getD-set-other index slot at v 0 (λ q. let r : getD index at 0 ≡ 0 = ap (λ (i : ℕ). getD index i 0) q ∙ z in omega arith) ∙ e
+
+way-filled : {index : List ℕ} {x : Name} {k i at : ℕ} (slot v : ℕ) → getD index slot 0 ≡ 0 → Way index x k i at → Way (set index slot v) x k i at
+way-filled {index} {x} {k} {i} {at} slot v z (here e) = here (filled index slot v z at k e)
+way-filled {index} {x} {k} {i} {at} slot v z (further j e w) = further j (filled index slot v z at j e) (way-filled slot v z w)
+
+-- No walk goes on from an empty slot.
+no-way : {index : List ℕ} {x : Name} {k i slot : ℕ} → getD index slot 0 ≡ 0 → Way index x k i slot → ⊥
+no-way z (here e) = omega arith
+no-way z (further j e w) = omega arith
+
+-- From a slot that holds place j the walk to another place goes on by a link of j.
+way-on : {index : List ℕ} {x : Name} {k i slot : ℕ} (j : ℕ) → getD index slot 0 ≡ j + 1 → (k ≡ j → ⊥) → Way index x k i slot → Way index x k (i + 1) (link-of j (bit-of x i))
+way-on j q n (here e) = absurd (n (omega arith))
+way-on {index} {x} {k} {i} j q n (further m e w) = subst (λ (y : ℕ). Way index x k (i + 1) (link-of y (bit-of x i))) (let z : m ≡ j = omega arith in z) w
+
 module _ (s t : List ℕ) where
-  pub indexed-none : (index : List ℕ) → index ≡ replicate 8192 0 → Indexed s t 0 index
-  indexed-none index i = record {
+  pub indexed-none : (index : List ℕ) → ((i : ℕ) → getD index i 0 ≡ 0) → Indexed s t 0 index
+  indexed-none index z = record {
     listed = omega arith;
-    room = ap length i ∙ length-replicate {A = ℕ} 8192 0;
-    entered = λ h. record {
-      heads = λ m l.
-          let e : getD index m 0 ≡ 0 = ap (λ (v : List ℕ). getD v m 0) i ∙ getD-replicate 8192 m 0 0 (omega arith) in
-          record { before = omega arith; marked = λ o. absurd (omega arith); others = λ k o p q. absurd (omega arith) };
-      links = λ k l. absurd (omega arith);
+    entered = λ r h. record {
+      found = λ k l. absurd (omega arith);
+      few = λ i. omega (arith, z i);
+      rising = λ i o. absurd (omega (arith, z i));
       distinct = λ j k l o. absurd (omega arith);
     };
   }
 
-  module _ (d : ℕ) (index : List ℕ) (p : Indexed s t d index) where
-    -- The index with the declaration at place d in front of those of its mark.
-    abbrev linked : List ℕ
-    linked = set index (4096 + d) (getD index (mark-at s t d) 0)
-
-    abbrev more : List ℕ
-    more = set linked (mark-at s t d) (d + 1)
-
-    module _ (h : d < 4096) (l : d * 5 + 5 ≤ length t) where
-      low : mark-at s t d < 4096
-      low = mark-low (name-at s t d)
-
-      head-same : getD more (mark-at s t d) 0 ≡ d + 1
-      head-same = getD-set-same linked (mark-at s t d) (d + 1) 0 (simp length-set (omega (arith, low, p .room)))
-
-      other : (i : ℕ) → (i ≡ mark-at s t d → ⊥) → (i ≡ 4096 + d → ⊥) → getD more i 0 ≡ getD index i 0
-      other i e q = getD-set-other linked (mark-at s t d) i (d + 1) 0 e ∙ getD-set-other index (4096 + d) i (getD index (mark-at s t d) 0) 0 q
-
-      link-same : getD more (4096 + d) 0 ≡ getD index (mark-at s t d) 0
-      link-same =
-          getD-set-other linked (mark-at s t d) (4096 + d) (d + 1) 0 (λ q. omega (arith, low))
-          ∙ getD-set-same index (4096 + d) (getD index (mark-at s t d) 0) 0 (omega (arith, p .room))
-
-      heads-more : (m : ℕ) → m < 4096 → Last s t m (d + 1) (getD more m 0)
-      heads-more m l =
-          elim (ℕ-discrete m (mark-at s t d)) [
-            | yes e ↦
-                let q : getD more m 0 ≡ d + 1 = ap (λ i. getD more i 0) e ∙ head-same in
-                subst (λ v. Last s t m (d + 1) v) (sym q) (record {
-                  before = omega arith;
-                  marked = λ o. ap (mark-at s t) (let z : d + 1 - 1 ≡ d = omega arith in z) ∙ sym e;
-                  others = λ k o r. absurd (omega arith);
-                })
-            | no e ↦
-                let a = p .entered (omega arith) .heads m l in
-                subst (λ v. Last s t m (d + 1) v) (sym (other m e (λ q. omega arith))) (record {
-                  before = omega (arith, a .before);
-                  marked = a .marked;
-                  others = λ k o r q. elim (ℕ-discrete k d) [
-                    | yes z ↦ e (sym q ∙ ap (mark-at s t) z)
-                    | no z ↦ a .others k o (omega arith) q
-                  ];
-                })
-          ]
-
-      links-more : (k : ℕ) → k < d + 1 → Last s t (mark-at s t k) k (getD more (4096 + k) 0)
-      links-more k l =
-          elim (ℕ-discrete k d) [
-            | yes e ↦
-                subst (λ i. Last s t (mark-at s t i) i (getD more (4096 + i) 0)) (sym e)
-                (subst (λ v. Last s t (mark-at s t d) d v) (sym link-same) (p .entered (omega arith) .heads (mark-at s t d) low))
-            | no e ↦ subst (λ v. Last s t (mark-at s t k) k v) (sym (other (4096 + k) (λ q. omega (arith, low)) (λ q. e (omega arith)))) (p .entered (omega arith) .links k (omega arith))
-          ]
-
-      pub entered-more : find (name-at s t d) (declared-names s t 0 d) ≡ none → Indexed s t (d + 1) more
-      entered-more n = record {
-        listed = omega arith;
-        room = simp length-set (p .room);
-        entered = λ o. record {
-          heads = heads-more;
-          links = links-more;
-          distinct = λ j k l r e. elim (ℕ-discrete k d) [
-            | yes z ↦ not-found (name-at s t d) s t d 0 n j (omega arith) (omega arith) (ap (name-at s t) (sym z) ∙ e)
-            | no z ↦ p .entered (omega arith) .distinct j k l (omega arith) e
-          ];
-        };
-      }
-
-  -- The walk for x has come to e: no declaration from there on has the name.
-  pub record Walked (x : Name) (d e : ℕ) : Type 0 where
-    pub before : e ≤ d
-    pub marked : 0 < e → mark-at s t (e - 1) ≡ mark-of x
-    pub others : (k : ℕ) → e ≤ k → k < d → x ≡ name-at s t k → ⊥
+  -- The walk for x is at a slot, with i bits behind it: a declaration of that name lies ahead, and what is put into an empty slot ahead is found.
+  pub record Walked (x : Name) (d : ℕ) (index : List ℕ) (i slot : ℕ) : Type 0 where
+    pub ahead : (k : ℕ) → k < d → x ≡ name-at s t k → Way index x k i slot
+    pub behind : (at k : ℕ) → getD index at 0 ≡ 0 → Way (set index at (k + 1)) x k i slot → Way (set index at (k + 1)) x k 0 (mark-of x)
 
   module _ (x : Name) (d : ℕ) (index : List ℕ) (p : Entered s t d index) where
-    pub walk-begins : Walked x d (getD index (mark-of x) 0)
-    walk-begins =
-        let a = p .heads (mark-of x) (mark-low x) in
-        record { before = a .before; marked = a .marked; others = λ k l h e. a .others k l h (ap mark-of (sym e)) }
+    pub walk-begins : Walked x d index 0 (mark-of x)
+    walk-begins = record {
+      ahead = λ k l e. subst (λ (y : Name). Way index y k 0 (mark-of y)) (sym e) (p .found k l);
+      behind = λ at k z w. w;
+    }
 
-    module _ (e : ℕ) (w : Walked x d e) (h : 0 < e) where
-      pub walk-goes-on : same-bytes x (name-at s t (e - 1)) ≡ false → Walked x d (getD index (4096 + (e - 1)) 0)
-      walk-goes-on q =
-          let b = w .before in
-          let a = p .links (e - 1) (omega arith) in record {
-            before = omega (arith, a .before);
-            marked = λ o. a .marked o ∙ w .marked h;
-            others = λ k l o r. elim (decLe e k) [
-              | yes y ↦ w .others k y o r
-              | no y ↦ elim (ℕ-discrete k (e - 1)) [
-                | yes z ↦ same-ne x (name-at s t (e - 1)) q (r ∙ ap (name-at s t) z)
-                | no z ↦ a .others k l (omega arith) (ap mark-of (sym r) ∙ sym (w .marked h))
-              ]
-            ];
-          }
+    module _ (i slot : ℕ) (w : Walked x d index i slot) where
+      pub walk-ends : length index ≡ all-slots → d ≤ places → slot < heads + 2 * d → getD index slot 0 ≡ 0 → Searched s t x d index (Slot.Free slot)
+      walk-ends r h l z = (
+        none-named x s t 0 d (λ j a o e. no-way z (w .ahead j (omega arith) e)),
+        λ r h. record { free = z; low = l; opens = λ k. w .behind slot k z (here (getD-set-same index slot (k + 1) 0 (omega arith))) },
+      )
 
-      pub walk-hits : same-bytes x (name-at s t (e - 1)) ≡ true → some (e - 1) ≡ find x (declared-names s t 0 d)
-      walk-hits q =
-          let b = w .before in
-          let y : x ≡ name-at s t (e - 1) = same-eq x (name-at s t (e - 1)) q in
-          first-named x s t (e - 1) 0 d (omega arith) (y ∙ ap (name-at s t) (let z : e - 1 ≡ 0 + (e - 1) = omega arith in z))
-          (λ i l o r. p .distinct i (e - 1) (omega arith) (omega arith) (sym y ∙ r))
+      module _ (k : ℕ) (e : getD index slot 0 ≡ k + 1) where
+        pub walk-goes-on : same-bytes x (name-at s t k) ≡ false → Walked x d index (i + 1) (link-of k (bit-of x i))
+        walk-goes-on q = record {
+          ahead = λ j l n. way-on k e (λ z. same-ne x (name-at s t k) q (n ∙ ap (name-at s t) z)) (w .ahead j l n);
+          behind = λ at j z v. w .behind at j z (further k (filled index at (j + 1) z slot k e) v);
+        }
 
-    pub walk-ends : (e : ℕ) → Walked x d e → e ≤ 0 → none ≡ find x (declared-names s t 0 d)
-    walk-ends e w h = none-named x s t 0 d (λ j l o r. w .others j (omega arith) (omega arith) r)
+        pub walk-hits : same-bytes x (name-at s t k) ≡ true → some k ≡ find x (declared-names s t 0 d)
+        walk-hits q =
+            let y : x ≡ name-at s t k = same-eq x (name-at s t k) q in
+            let l : k < d = omega (arith, p .few slot) in
+            first-named x s t k 0 d l (y ∙ ap (name-at s t) (let z : k ≡ 0 + k = omega arith in z))
+            (λ i a o r. p .distinct i k (omega arith) l (sym y ∙ r))
+
+  module _ (d : ℕ) (index : List ℕ) (p : Indexed s t d index) (l : d * 5 + 5 ≤ length t) (slot : ℕ) (q : Searched s t (name-at s t d) d index (Slot.Free slot)) where
+    abbrev more : List ℕ
+    more = set index slot (d + 1)
+
+    module _ (r : length index ≡ all-slots) (h : d < places) where
+      e : Entered s t d index
+      e = p .entered r (omega arith)
+
+      o : Open s t (name-at s t d) d index slot
+      o = q .1 r (omega arith)
+
+      word : (i : ℕ) → (i ≡ slot → getD more i 0 ≡ d + 1) × ((i ≡ slot → ⊥) → getD more i 0 ≡ getD index i 0)
+      word i = (
+        λ z. ap (λ (j : ℕ). getD more j 0) z ∙ getD-set-same index slot (d + 1) 0 (omega (arith, o .low)),
+        λ n. getD-set-other index slot i (d + 1) 0 n,
+      )
+
+      entered-more : Entered s t (d + 1) more
+      entered-more = record {
+        found = λ k b. elim (ℕ-discrete k d) [
+          | yes z ↦ subst (λ (j : ℕ). Way more (name-at s t j) j 0 (mark-of (name-at s t j))) (sym z) (o .opens d)
+          | no z ↦ way-filled slot (d + 1) (o .free) (e .found k (omega arith))
+        ];
+        few = λ i. elim (ℕ-discrete i slot) [
+          | yes z ↦ omega (arith, word i .0 z)
+          | no z ↦ omega (arith, word i .1 z, e .few i)
+        ];
+        rising = λ i b. elim (ℕ-discrete i slot) [
+          | yes z ↦ omega (arith, word i .0 z, o .low)
+          | no z ↦ omega (arith, word i .1 z, e .rising i (omega (arith, word i .1 z)))
+        ];
+        distinct = λ j k b c f. elim (ℕ-discrete k d) [
+          | yes z ↦ not-found (name-at s t d) s t d 0 (sym (q .0)) j (omega arith) (omega arith) (ap (name-at s t) (sym z) ∙ f)
+          | no z ↦ e .distinct j k b (omega arith) f
+        ];
+      }
+
+    pub indexed-more : d < places → Indexed s t (d + 1) more
+    indexed-more h = record { listed = omega arith; entered = λ r b. entered-more (sym (length-set index slot (d + 1)) ∙ r) h }
+
+    -- Where there is no slot for it, the index says nothing of one more.
+    pub indexed-aside : (d < places → length index ≤ slot) → Indexed s t (d + 1) index
+    indexed-aside n = record {
+      listed = omega arith;
+      entered = λ r b. let z : length index ≤ slot = n (omega arith) in absurd (omega (arith, q .1 r (omega arith) .low));
+    }

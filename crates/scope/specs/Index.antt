@@ -1,43 +1,74 @@
--- Ours: an index from the names of declarations to their places. A name's mark chooses a head, which holds the last place of that mark, and each
--- place has a link to the one before it of its mark; a place is held as one more than itself, and 0 is none. Assumes nothing.
+-- Ours: an index from the names of declarations to their places, a search tree under each head. A name's mark chooses a head; a head and a link hold a
+-- place, as one more than itself, and 0 is none; from a place whose name is another one the walk goes on by one of its two links, which the next bit of
+-- the name looked for chooses. Assumes nothing.
 -- Only contracts of functions that `elaborate` calls on its way cite this.
-use Prim.Native.Nat.{ℕ, _+_, _-_, _*_, _/_, _%_, _<_, _≤_}
+use Prim.Native.Nat.{ℕ, _+_, _*_, _/_, _%_, _^_, _<_, _≤_}
 use mathlib.Core.Path.{_≡_}
 use mathlib.Core.List.{List, [], _∷_}
-use lib.ListN.{length, getD}
+use mathlib.Core.Option.{none, some}
+use lib.ListN.{length, getD, set}
 use Rattle.terms.specs.Label.{Name, part}
+use Rattle.terms.specs.Resolution.{find}
+use Rattle.scope.specs.Scope.{declared-names}
+use Rattle.scope.specs.declared.Slot.{Slot}
+
+-- How many heads there are, and for how many places there are two links each.
+abbrev pub heads : ℕ
+heads = 4096
+
+abbrev pub places : ℕ
+places = 4096
+
+abbrev pub all-slots : ℕ
+all-slots = heads + 2 * places
 
 -- A name's bytes mixed into a number of 32 bits.
 unfoldable pub mixed : ℕ → Name → ℕ
 mixed m [] = m
 mixed m (b ∷ x) = mixed ((m + b) * 374761393 % 4294967296) x
 
--- The mark of a name, one of 4,096: names of one mark may differ.
+-- The mark of a name, one for each head: names of one mark may differ.
 unfoldable pub mark-of : Name → ℕ
 mark-of x = mixed 0 x / 1048576
+
+-- Bit i of a name, counted from the lowest of its first byte, and 0 behind its end: names that differ do so in a bit.
+unfoldable pub bit-of : Name → ℕ → ℕ
+bit-of x i = getD x (i / 8) 0 / 2 ^ (i % 8) % 2
+
+-- The slot of the link of place k for the bit b, behind the heads.
+abbrev pub link-of : ℕ → ℕ → ℕ
+link-of k b = heads + 2 * k + b
+
+-- The walk for the name x that is at a slot, with i bits behind it, comes to place k.
+pub data Way (index : List ℕ) (x : Name) (k : ℕ) : ℕ → ℕ → Type 0 where
+  here : {i slot : ℕ} → getD index slot 0 ≡ k + 1 → Way index x k i slot
+  further : {i slot : ℕ} (j : ℕ) → getD index slot 0 ≡ j + 1 → Way index x k (i + 1) (link-of j (bit-of x i)) → Way index x k i slot
 
 -- The name in the declaration record at place k.
 abbrev pub name-at : List ℕ → List ℕ → ℕ → Name
 name-at s declarations k = part s (getD declarations (k * 5 + 1) 0) (getD declarations (k * 5 + 2) 0)
 
 module _ (s declarations : List ℕ) where
-  abbrev pub mark-at : ℕ → ℕ
-  mark-at k = mark-of (name-at s declarations k)
-
-  -- The last place before b whose name has the mark m is e - 1, and there is none if e is 0.
-  pub record Last (m b e : ℕ) : Type 0 where
-    pub before : e ≤ b
-    pub marked : 0 < e → mark-at (e - 1) ≡ m
-    pub others : (k : ℕ) → e ≤ k → k < b → mark-at k ≡ m → ⊥
-
-  -- The first d declarations, of which no two have one name.
+  -- The first d declarations, of which no two have one name. From a place the links go to later ones.
   pub record Entered (d : ℕ) (index : List ℕ) : Type 0 where
-    pub heads : (m : ℕ) → m < 4096 → Last m d (getD index m 0)
-    pub links : (k : ℕ) → k < d → Last (mark-at k) k (getD index (4096 + k) 0)
+    pub found : (k : ℕ) → k < d → Way index (name-at s declarations k) k 0 (mark-of (name-at s declarations k))
+    pub few : (slot : ℕ) → getD index slot 0 ≤ d
+    pub rising : (slot : ℕ) → 0 < getD index slot 0 → slot + 2 < heads + 2 * getD index slot 0
     pub distinct : (j k : ℕ) → j < k → k < d → name-at s declarations k ≡ name-at s declarations j → ⊥
 
-  -- The first d declarations are there, and in the index. Of more than it has links for, the index says nothing.
+  -- The first d declarations are there, and in the index. Of more than it has links for, and of few, the index says nothing.
   pub record Indexed (d : ℕ) (index : List ℕ) : Type 0 where
     pub listed : d * 5 ≤ length declarations
-    pub room : length index ≡ 8192
-    pub entered : d ≤ 4096 → Entered d index
+    pub entered : length index ≡ all-slots → d ≤ places → Entered d index
+
+  -- The walk for the name x ends at an empty slot: what is put there is found.
+  pub record Open (x : Name) (d : ℕ) (index : List ℕ) (slot : ℕ) : Type 0 where
+    pub free : getD index slot 0 ≡ 0
+    pub low : slot < heads + 2 * d
+    pub opens : (k : ℕ) → Way (set index slot (k + 1)) x k 0 (mark-of x)
+
+  -- What a search for the name x among the first d declarations answers: the first place, or the slot for it.
+  abbrev pub Searched : Name → ℕ → List ℕ → Slot → Type 0
+  Searched x d index (Slot.Held k) = some k ≡ find x (declared-names s declarations 0 d)
+  Searched x d index (Slot.Free slot) =
+      (none ≡ find x (declared-names s declarations 0 d)) × (length index ≡ all-slots → d ≤ places → Open x d index slot)

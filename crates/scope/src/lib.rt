@@ -1,26 +1,39 @@
 // What a name refers to: a local, the innermost first, or else an earlier declaration. Names are parts of the source, compared by bytes.
 // The port of the lookups in `elaborate_term`, surface/elaborate.rs. Document 01, "The core module".
 ghost use mathlib.Core.Path.{_≡_};
-ghost use Prim.Native.Nat.{_+_, _*_, _<_, _≤_};
+ghost use Prim.Native.Nat.{ℕ, _+_, _*_, _<_, _≤_};
 ghost use lib.ListN.{length};
-ghost use mathlib.Core.Option.{none};
+ghost use mathlib.Core.List.{List};
 ghost use Rattle.words.specs.Words.{same-bytes};
 ghost use Rattle.terms.specs.Label.{part};
 ghost use Rattle.terms.specs.Resolution.{find, core-of};
 ghost use Rattle.scope.specs.Scope.{place-of, core-of-referent, Binders, local-names, declared-names, reference};
-ghost use Rattle.scope.specs.Index.{mark-of, name-at, Indexed};
+ghost use Rattle.scope.specs.Index.{places, heads, all-slots, mark-of, bit-of, name-at, Indexed, Searched};
 
-// How many heads the index of names has, and how many places it has links for: a source of 65,535 bytes has fewer declarations.
+// The index of names: how many heads it has, and for how many places it has two links each. A source of 65,535 bytes has fewer declarations.
 const HEADS: usize = 4096;
 
 const PLACES: usize = 4096;
 
-pub const INDEX: usize = 8192;
+pub const INDEX: usize = HEADS + 2 * PLACES;
+
+// How a name's bytes are mixed into a number of 32 bits, and how many of these numbers share a head.
+const MULTIPLIER: usize = 374761393;
+
+const NUMBERS: usize = 4294967296;
+
+const SHARE: usize = NUMBERS / HEADS;
 
 // The number of a name in a list of names, counted from 0.
 pub enum Found {
     At(u32),
     Nothing,
+}
+
+// The place of a declaration with a name, or the slot of the index where its name would go.
+pub enum Slot {
+    Held(u32),
+    Free(usize),
 }
 
 pub enum Referent {
@@ -115,39 +128,56 @@ fn find_declared(s: &[u8], declarations: &[u32], d: usize, x: &[u8]) -> Found
 
 // The mark of a name, one for each head of the index: names with other marks are other names.
 fn mark(x: &[u8]) -> usize
-    ensures { λ r. ⌜ (r ≡ mark-of (now (x .entry))) × (r < 4096) ⌝ }
+    ensures { λ r. ⌜ (r ≡ mark-of (now (x .entry))) × (r < heads) ⌝ }
 {
     let mut mixed: usize = 0;
     let mut i = 0;
     while i < x.len() {
         let b = x[i] as usize;
-        mixed = (mixed + b) * 374761393 % 4294967296;
+        mixed = (mixed + b) * MULTIPLIER % NUMBERS;
         i += 1;
     }
-    mixed / 1048576
+    mixed / SHARE
 }
 
-// The place of the first of at most 4,096 declarations that has the name x: from the last one of its mark back along the links.
-fn find_linked(s: &[u8], declarations: &[u32], index: &[u16], d: usize, x: &[u8]) -> Found
-    requires { ⌜ (d ≤ 4096) × Indexed (now s) (now declarations) d (now index) ⌝ }
-    ensures { λ r. ⌜ place-of r ≡ find (now (x .entry)) (declared-names (now (s .entry)) (now (declarations .entry)) 0 d) ⌝ }
+// Bit i of a name.
+fn bit(x: &[u8], i: usize) -> usize
+    ensures { λ r. ⌜ (r ≡ bit-of (now (x .entry)) i) × (r < 2) ⌝ }
 {
-    let m = mark(x);
-    let mut e = index[m] as usize;
-    while 0 < e {
+    let k = i / 8;
+    if x.len() <= k {
+        return 0;
+    }
+    let b = x[k] as usize;
+    (b >> i % 8) % 2
+}
+
+// The search for the name x in an index that holds the first d declarations.
+fn find_slot(s: &[u8], declarations: &[u32], index: &[u16], d: usize, x: &[u8]) -> Slot
+    requires { ⌜ (d ≤ places) × (length (now index) ≡ all-slots) × Indexed (now s) (now declarations) d (now index) ⌝ }
+    ensures { λ r. ⌜ Searched (now (s .entry)) (now (declarations .entry)) (now (x .entry)) d (now (index .entry)) r ⌝ }
+{
+    let mut slot = mark(x);
+    let mut i: usize = 0;
+    loop {
+        let e = index[slot] as usize;
+        if e == 0 {
+            return Slot::Free(slot);
+        }
         let k = e - 1;
         let a = declarations[k * 5 + 1];
         let n = declarations[k * 5 + 2];
         if is_name(s, a, n, x) {
             let place = k as u32;
-            return Found::At(place);
+            return Slot::Held(place);
         }
-        e = index[HEADS + k] as usize;
+        let b = bit(x, i);
+        slot = HEADS + 2 * k + b;
+        i += 1;
     }
-    Found::Nothing
 }
 
-// The place of the first of d declarations that has a name. Each has been entered into the index; of more than it has links for, all are walked over.
+// The search for a name among the first d declarations. An index that is too short, or for fewer declarations, is left aside: all are walked over.
 pub fn find_indexed(
     s: &[u8],
     declarations: &[u32],
@@ -155,32 +185,32 @@ pub fn find_indexed(
     d: usize,
     start: u32,
     length: u32,
-) -> Found
+) -> Slot
     requires { ⌜ (d ≤ 4294967295) × Indexed (now s) (now declarations) d (now index) ⌝ }
-    ensures { λ r. ⌜ place-of r ≡ find (part (now (s .entry)) start length) (declared-names (now (s .entry)) (now (declarations .entry)) 0 d) ⌝ }
+    ensures { λ r. ⌜ Searched (now (s .entry)) (now (declarations .entry)) (part (now (s .entry)) start length) d (now (index .entry)) r ⌝ }
 {
     let x = atom(s, start, length);
-    if PLACES < d {
-        return find_declared(s, declarations, d, x);
+    if index.len() == INDEX {
+        if d <= PLACES {
+            return find_slot(s, declarations, index, d, x);
+        }
     }
-    find_linked(s, declarations, index, d, x)
+    let f = find_declared(s, declarations, d, x);
+    match f {
+        Found::At(place) => Slot::Held(place),
+        Found::Nothing => Slot::Free(INDEX),
+    }
 }
 
-// The declaration at place k, whose name is new, goes into the index in front of those of its mark.
-pub fn enter(s: &[u8], declarations: &[u32], index: &mut [u16], k: usize)
-    requires { ⌜ (k * 5 + 5 ≤ length (now declarations)) × Indexed (now s) (now declarations) k (now index) ⌝ }
-    ensures { λ r. ⌜ (find (name-at (now (s .entry)) (now (declarations .entry)) k) (declared-names (now (s .entry)) (now (declarations .entry)) 0 k) ≡ none → Indexed (now (s .entry)) (now (declarations .entry)) (k + 1) (now (index .exit))) ⌝ }
+// The declaration at place k, whose name is new, goes into the index at the slot that the search for its name ended at.
+pub fn enter(index: &mut [u16], slot: usize, k: usize)
+    ensures { λ r. ⌜ ((s declarations : List ℕ) → k * 5 + 5 ≤ length declarations → Indexed s declarations k (now (index .entry)) → Searched s declarations (name-at s declarations k) k (now (index .entry)) (Slot.Free slot) → Indexed s declarations (k + 1) (now (index .exit))) ⌝ }
 {
-    if PLACES <= k {
-        return;
+    if slot < index.len() {
+        if k < PLACES {
+            index[slot] = (k + 1) as u16;
+        }
     }
-    let a = declarations[k * 5 + 1];
-    let n = declarations[k * 5 + 2];
-    let x = atom(s, a, n);
-    let m = mark(x);
-    let link = index[m];
-    index[HEADS + k] = link;
-    index[m] = (k + 1) as u16;
 }
 
 // "A local hides a declaration."
@@ -203,8 +233,8 @@ pub fn find_name(
         Found::Nothing => {
             let g = find_indexed(s, declarations, index, d, start, length);
             match g {
-                Found::At(j) => Referent::Global(j),
-                Found::Nothing => Referent::Unknown,
+                Slot::Held(j) => Referent::Global(j),
+                Slot::Free(_) => Referent::Unknown,
             }
         }
     }

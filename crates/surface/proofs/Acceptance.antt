@@ -14,31 +14,16 @@ use Rattle.utf8.specs.Utf8.{valid-length, byte-order-mark, WellFormed}
 use Rattle.utf8.proofs.Longest.{valid-is-whole, valid-is-longest}
 use Rattle.terms.specs.Label.{Declaration}
 use Rattle.terms.specs.Resolution.{RefusedName, first-refused}
-use Rattle.terms.proofs.Widths.{total}
+use Rattle.terms.proofs.Widths.{total, total-surface}
 use Rattle.surface.specs.Grammar.{Derives}
 use Rattle.surface.specs.Reader.{Position, start, done, after}
 use Rattle.surface.specs.Reading.{read-module}
 use Rattle.surface.specs.Loading.{Lengths, frame-limit, parsing, reading, accept, loading}
-use Rattle.surface.proofs.Frames.{deepest}
+pub use Rattle.surface.specs.Statements.{Readable, Enough, ReadsExactly, LoadsExactly}
 use Rattle.surface.proofs.Steps.{no-done, after-elim, require-elim, done-as}
 use Rattle.surface.proofs.Takes.{after-go, require-go}
 use Rattle.surface.proofs.SoundModule.{sound}
 use Rattle.surface.proofs.CompleteModule.{complete}
-
--- What a source must be, whatever is lent: "6 source over 65,535 bytes", UTF-8 without the mark, a module, "7 more than 512 frames".
-pub record Readable (s : List ℕ) (ds : List Declaration) : Type 0 where
-  pub short : length s ≤ 65535
-  pub well-formed : WellFormed s
-  pub unmarked : byte-order-mark s ≡ false
-  pub derives : Derives s ds
-  pub shallow : deepest ds ≤ 512
-
--- Enough storage for some declarations: no 8, 9, 10 or 11.
-pub record Enough (z : Lengths) (ds : List Declaration) : Type 0 where
-  pub surface : total 0 ds ≤ z .surface / 8
-  pub core : total 0 ds ≤ z .core / 8
-  pub declarations : length ds ≤ z .declarations / 5
-  pub work : 16384 ≤ z .work
 
 -- All of a source is UTF-8 exactly if its longest valid beginning is as long as it is.
 whole-valid : (s : List ℕ) → (valid-length s ≡ length s) ↔ WellFormed s
@@ -91,8 +76,8 @@ is-read s z ds q e =
     done-as (IsRead s z) e₂ (record {
       readable = m .readable;
       enough = record {
-        surface = m .surface;
-        core = omega (arith, m .rows, leb-true (p .rows) (z .core / 8) g);
+        surface = omega (arith, m .surface, total-surface 0 es);
+        core = omega (arith, m .rows, leb-true (p .rows) (z .core / 8) g, total-surface 0 es);
         declarations = m .declarations;
         work = m .work;
       };
@@ -102,7 +87,7 @@ is-read s z ds q e =
 pub reads : (s : List ℕ) (z : Lengths) (ds : List Declaration) → Readable s ds → Enough z ds → (q : Position) × (reading s z start ≡ done ds q)
 unfolding reading parsing
 reads s z ds r e =
-    let g = complete s (z .surface / 8) (z .declarations / 5) frame-limit ds (r .derives) (e .declarations) (omega (arith, r .shallow)) (e .surface) in
+    let g = complete s (z .surface / 8) (z .declarations / 5) frame-limit ds (r .derives) (e .declarations) (omega (arith, r .shallow)) (omega (arith, e .surface, total-surface 0 ds)) in
     let f : parsing s z start ≡ done ds (g .position) =
     require-go (leb 16384 (z .work)) _ start _ _ (le-leb 16384 (z .work) (e .work))
     (require-go (leb (length s) 65535) _ start _ _ (le-leb (length s) 65535 (r .short))
@@ -110,11 +95,10 @@ reads s z ds r e =
     (require-go (not (byte-order-mark s)) _ start _ _ (ap not (r .unmarked)) (g .reads)))) in (
       g .position,
       after-go (parsing s z start) _ ds (g .position) _ f
-          (require-go (leb (g .position .rows) (z .core / 8)) _ (g .position) _ _ (le-leb (g .position .rows) (z .core / 8) (omega (arith, g .rows, e .core))) refl),
+          (require-go (leb (g .position .rows) (z .core / 8)) _ (g .position) _ _ (le-leb (g .position .rows) (z .core / 8) (omega (arith, g .rows, e .core, total-surface 0 ds))) refl),
     )
 
--- A source is read without refusal exactly if it is readable, and the storage is enough; what is read is the module that the grammar derives.
-pub reads-exactly : (s : List ℕ) (z : Lengths) (ds : List Declaration) → ((q : Position) × (reading s z start ≡ done ds q)) ↔ (Readable s ds × Enough z ds)
+pub reads-exactly : ReadsExactly
 reads-exactly s z ds = (
   λ h. let w = is-read s z ds (h .0) (h .1) in (w .readable, w .enough),
   λ h. reads s z ds (h .0) (h .1),
@@ -141,7 +125,7 @@ pub loads : (s : List ℕ) (z : Lengths) (ds : List Declaration) (q : Position) 
 unfolding loading
 loads s z ds q h = after-go _ _ ds q _ (h .read) (ap (λ (o : Option RefusedName). after (accept o q) (λ _ r. done ds r)) (h .names))
 
-pub loads-exactly : (s : List ℕ) (z : Lengths) (ds : List Declaration) → ((q : Position) × (loading s z start ≡ done ds q)) ↔ (Readable s ds × Enough z ds × (first-refused s [] ds ≡ none))
+pub loads-exactly : LoadsExactly
 loads-exactly s z ds = (
   λ h. let a = is-loaded s z ds (h .0) (h .1) in
       let w = is-read s z ds (h .0) (a .read) in

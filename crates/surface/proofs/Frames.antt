@@ -1,24 +1,10 @@
--- How many frames are open at once while terms are read. Assumes nothing.
+-- Laws of how many frames are open at once while terms are read. Assumes nothing.
 use mathlib.Core.Path.{_≡_, refl}
-use mathlib.Core.List.{List, [], _∷_}
-use Prim.Native.Nat.{ℕ, zero, suc, _≤_, max}
+use Prim.Native.Nat.{ℕ, zero, suc, _≤_}
 use native.Mathlib.Omega.{arith}
 use Rattle.terms.specs.Tree.{Forest, nil, node}
-use Rattle.terms.specs.Label.{Label, Declaration, trees}
-
--- A term with arguments is a frame until they are read.
-abbrev pub opens : Forest Label → ℕ → ℕ
-opens nil n = 0
-opens (node m a r) n = n
-
-abbrev pub frames-of : Forest Label → ℕ
-frames-of nil = 0
-frames-of (node m a r) = max (opens a (suc (frames-of a))) (frames-of r)
-
--- The most that are open at once in a type or a body of some declarations.
-abbrev pub deepest : List Declaration → ℕ
-deepest [] = 0
-deepest (d ∷ l) = max (frames-of (trees d)) (deepest l)
+use Rattle.terms.specs.Label.{Label}
+pub use Rattle.surface.specs.Statements.{opens, frames-of, deepest}
 
 pub opens-at-most : (a : Forest Label) (n : ℕ) → opens a n ≤ n
 opens-at-most nil n = omega arith

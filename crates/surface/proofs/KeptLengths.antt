@@ -9,10 +9,10 @@ use Rattle.surface.specs.Reader.{start, Result, done, refused}
 use Rattle.surface.specs.Loading.{Lengths, loading, Outcome, outcome, load}
 
 pub record KeptLengths (z : Lengths) (o : Outcome) : Type 0 where
-  pub surface : length (o .surface) ≡ z .surface
-  pub core : length (o .core) ≡ z .core
-  pub declarations : length (o .declarations) ≡ z .declarations
-  pub work : length (o .work) ≡ z .work
+  pub surface : length (o .tables .surface) ≡ z .surface
+  pub core : length (o .tables .core) ≡ z .core
+  pub declarations : length (o .tables .declarations) ≡ z .declarations
+  pub work : length (o .tables .work) ≡ z .work
 
 pub outcome-keeps : (s : List ℕ) (z : Lengths) (r : Result (List Declaration)) → KeptLengths z (outcome s z r)
 outcome-keeps s z (refused r) = record {

@@ -13,3 +13,5 @@ pub mod Acceptance
 pub mod Demand
 pub mod Points
 pub mod KeptLengths
+pub mod Reports
+pub mod Statements

@@ -15,7 +15,7 @@ use Rattle.surface.specs.declared.Answer.the-variants.{Loaded, Refused}
 use Rattle.surface.specs.Reader.{start, Result, done, refused, nowhere, at-offset}
 use Rattle.surface.specs.Reading.{store, finish, several, term, token, opening, closing, atom, word, natural, declaration-kind, name, bare, tagged, known, beginning-on, beginning, body, declared, declaration, onwards, declarations, edition-of, supported, surface-line, module-line, head, read-module}
 use Rattle.surface.specs.Loading.{Lengths, parsing, reading, loading, load}
-use Rattle.surface.proofs.Starred.{H, listing-lengths}
+use Rattle.surface.specs.Card.{H, listing-lengths}
 
 pub record Point : Type 0 where
   pub lent : Lengths

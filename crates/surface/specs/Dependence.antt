@@ -1,6 +1,6 @@
 -- Document 01, "The core module" and refusal 12: the dependence question about a source. Assumes nothing.
 use mathlib.Core.Path.{_≡_}
-use mathlib.Core.List.{List, [], _∷_}
+use mathlib.Core.List.{List, []}
 use mathlib.Core.Bool.{_&&_}
 use Prim.Native.Nat.{ℕ}
 use lib.Dec.{ltb}
@@ -11,7 +11,8 @@ use Rattle.terms.specs.Dependence.{Shows, Depends}
 use Rattle.surface.specs.declared.Dependence.{Dependence}
 use Rattle.surface.specs.declared.Dependence.the-variants.{Yes, No, Refused}
 use Rattle.surface.specs.Reader.{start, Result, done, refused, Reader, _>>=_, _>>_, pure, require, nowhere}
-use Rattle.surface.specs.Loading.{Lengths, loading, Outcome, outcome, Report, report-refusal}
+use Rattle.surface.specs.Loading.{Lengths, Tables, lengths, leaves, loading, Outcome, outcome}
+pub use Rattle.surface.specs.Reports.{report-dependence}
 
 -- "The question loads the source first", "12 dependence asked of a place that is no declaration, nowhere, after loading".
 unfoldable pub asking : List ℕ → Lengths → ℕ → ℕ → Reader (List Declaration)
@@ -33,8 +34,9 @@ Answers s i j (done ds p) (Refused q) = ⊥
 Answers s i j (done ds p) (Yes k) = Shows (resolve-module s [] ds) i j k
 Answers s i j (done ds p) No = ¬ Depends (resolve-module s [] ds) i j
 
--- Document 01's number and values for each case of the answer: a yes has its row, a refusal its class, and its offset if it has one.
-abbrev pub report-dependence : Dependence → Report
-report-dependence (Yes row) = record { number = 0; values = row ∷ [] }
-report-dependence No = record { number = 0; values = [] }
-report-dependence (Refused r) = report-refusal r
+-- The promise of `depends`: a call for the source s and the places i and j, with such tables before it, gives this answer and leaves these
+-- tables.
+abbrev pub Asks : List ℕ → ℕ → ℕ → Tables → Dependence → Tables → Type 0
+Asks s i j before answer after =
+    let z = lengths before in
+    Answers s i j (asking s z i j start) answer × (leaves (ask s z i j .answer) after ≡ ask s z i j)

@@ -2,7 +2,11 @@ pub mod Text
 pub mod Grammar
 pub mod Reader
 pub mod Reading
+pub mod Tables
+pub mod Reports
 pub mod Loading
 pub mod SameCore
 pub mod Agreement
 pub mod Dependence
+pub mod Card
+pub mod Statements

@@ -1,28 +1,21 @@
 -- Document 01, "When nothing is loaded": the answer and the four tables, from a source and the tables' lengths. Assumes nothing.
-use mathlib.Core.List.{List, [], _∷_}
+use mathlib.Core.Path.{_≡_}
+use mathlib.Core.List.{List, []}
 use mathlib.Core.Option.{Option, none, some}
 use mathlib.Core.Bool.{not}
 use Prim.Native.Nat.{ℕ, _/_}
 use lib.Dec.{leb, eqb}
 use lib.ListN.{length}
-use Rattle.token.specs.declared.Place.{Place}
-use Rattle.token.specs.declared.Place.the-variants.{At, Nowhere}
-use Rattle.token.specs.declared.Refusal.{Refusal}
 use Rattle.utf8.specs.Utf8.{valid-length, byte-order-mark}
 use Rattle.terms.specs.Label.{Declaration}
 use Rattle.terms.specs.Resolution.{RefusedName, first-refused, resolve-module}
-use Rattle.terms.specs.Rows.{pad, joined, surface-rows, core-rows, declaration-records}
+use Rattle.terms.specs.Rows.{surface-rows, core-rows, declaration-records}
 use Rattle.surface.specs.declared.Answer.{Answer}
 use Rattle.surface.specs.declared.Answer.the-variants.{Loaded, Refused}
 use Rattle.surface.specs.Reader.{start, Result, done, refused, Reader, _>>=_, _>>_, pure, refuse, position, require, nowhere, at-offset}
 use Rattle.surface.specs.Reading.{read-module}
-
--- The lengths of the lent tables in words.
-pub record Lengths : Type 0 where
-  pub surface : ℕ
-  pub core : ℕ
-  pub declarations : ℕ
-  pub work : ℕ
+pub use Rattle.surface.specs.Reports.{Report, offsets, report-refusal, report}
+pub use Rattle.surface.specs.Tables.{Each, Lengths, Tables, tables, lengths, holding, blank, Left, leaves}
 
 -- "7 more than 512 frames open in one term"
 abbrev pub frame-limit : ℕ
@@ -60,48 +53,19 @@ loading s z = do
   accept (first-refused s [] ds)
   pure ds
 
--- What a call leaves: its answer, and the four tables.
-pub record Outcome : Type 0 where
-  pub answer : Answer
-  pub surface : List ℕ
-  pub core : List ℕ
-  pub declarations : List ℕ
-  pub work : List ℕ
+-- What a call of `load` leaves.
+abbrev pub Outcome : Type 0
+Outcome = Left Answer Tables
 
--- "After every refusal, 12 included, the row tables, declaration list and work area are all 0; after acceptance unused rows, unused
--- records, words left over behind the last whole row or record, and the work area are 0."
 abbrev pub outcome : List ℕ → Lengths → Result (List Declaration) → Outcome
-outcome s z (refused r) = record {
-  answer = Refused r;
-  surface = pad (z .surface) [];
-  core = pad (z .core) [];
-  declarations = pad (z .declarations) [];
-  work = pad (z .work) [];
-}
-outcome s z (done ds p) = record {
-  answer = Loaded (p .rows) (length ds);
-  surface = pad (z .surface) (joined (surface-rows 0 ds));
-  core = pad (z .core) (joined (core-rows 0 (resolve-module s [] ds)));
-  declarations = pad (z .declarations) (joined (declaration-records 0 (resolve-module s [] ds)));
-  work = pad (z .work) [];
-}
+outcome s z (refused r) = leaves (Refused r) (blank z)
+outcome s z (done ds p) =
+    let m = resolve-module s [] ds in
+    leaves (Loaded (p .rows) (length ds)) (holding z (surface-rows 0 ds) (core-rows 0 m) (declaration-records 0 m))
 
 unfoldable pub load : List ℕ → Lengths → Outcome
 load s z = outcome s z (loading s z start)
 
--- Document 01's number and values for each case of an answer: 0 and the counts of rows and declarations for acceptance;
--- for a refusal its class, and its offset if it has one.
-pub record Report : Type 0 where
-  pub number : ℕ
-  pub values : List ℕ
-
-abbrev pub offsets : Place → List ℕ
-offsets (At p) = p ∷ []
-offsets Nowhere = []
-
-abbrev pub report-refusal : Refusal → Report
-report-refusal r = record { number = r .class; values = offsets (r .place) }
-
-abbrev pub report : Answer → Report
-report (Loaded rows declarations) = record { number = 0; values = rows ∷ declarations ∷ [] }
-report (Refused r) = report-refusal r
+-- The promise of `load`: a call for the source s, with such tables before it, gives this answer and leaves these tables.
+abbrev pub Loads : List ℕ → Tables → Answer → Tables → Type 0
+Loads s before answer after = leaves answer after ≡ load s (lengths before)

@@ -22,10 +22,10 @@ declaration-count (Refused r) = 0
 pub record SameCore (s : List ℕ) (a : Outcome) (t : List ℕ) (b : Outcome) : Type 0 where
   pub row-counts : row-count (a .answer) ≡ row-count (b .answer)
   pub declaration-counts : declaration-count (a .answer) ≡ declaration-count (b .answer)
-  pub same-rows : map (row-content s) (first-rows 8 (row-count (a .answer)) (a .core)) ≡ map (row-content t) (first-rows 8 (row-count (b .answer)) (b .core))
+  pub same-rows : map (row-content s) (first-rows 8 (row-count (a .answer)) (a .tables .core)) ≡ map (row-content t) (first-rows 8 (row-count (b .answer)) (b .tables .core))
   pub same-declarations :
-      map (record-content s) (first-rows 5 (declaration-count (a .answer)) (a .declarations))
-      ≡ map (record-content t) (first-rows 5 (declaration-count (b .answer)) (b .declarations))
+      map (record-content s) (first-rows 5 (declaration-count (a .answer)) (a .tables .declarations))
+      ≡ map (record-content t) (first-rows 5 (declaration-count (b .answer)) (b .tables .declarations))
 
 -- The call accepts its source.
 abbrev pub Accepts : Outcome → Type 0

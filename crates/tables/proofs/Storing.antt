@@ -26,14 +26,14 @@ module _ (t : List ℕ) (at : ℕ) (ws : List ℕ) where
   unfolding stored
   stored-not h = ap (λ (b : Bool). cond b (with-words t at ws) t) (lt-leb (at + length ws) (length t) h)
 
+  pub store-all : (t₁ : List ℕ) (i : ℕ) → length ws ≤ i → Storing t₁ i → t₁ ≡ with-words t at ws
+  store-all t₁ i k s =
+      let e : i ≡ length ws = omega (arith, s .0) in
+      s .1 ∙ ap (paste t at ws) e ∙ ap (λ (l : List ℕ). take at t ++ l ++ drop (at + length ws) t) (take-length ws)
+
   module _ (h : at + length ws ≤ length t) where
     pub store-more : (t₁ : List ℕ) (i : ℕ) → i < length ws → Storing t₁ i → Storing (set t₁ (at + i) (getD ws i 0)) (i + 1)
     store-more t₁ i k s = (
       omega arith,
       ap (λ (l : List ℕ). set l (at + i) (getD ws i 0)) (s .1) ∙ paste-suc t at ws i 0 (omega arith) k ∙ ap (paste t at ws) (sym (add-one i)),
     )
-
-    pub store-all : (t₁ : List ℕ) (i : ℕ) → length ws ≤ i → Storing t₁ i → t₁ ≡ stored t at ws
-    store-all t₁ i k s =
-        let e : i ≡ length ws = omega (arith, s .0) in
-        s .1 ∙ ap (paste t at ws) e ∙ ap (λ (l : List ℕ). take at t ++ l ++ drop (at + length ws) t) (take-length ws) ∙ sym (stored-fits h)

@@ -5,8 +5,9 @@ use mathlib.Core.Bool.{Bool, true, false, _||_, cond, true≢false}
 use native.Mathlib.Omega.{arith}
 use native.Mathlib.Decide.{ℕ-discrete}
 use lib.Dec.{eqb}
-use borrow.Author.Tests.{ne-eqb}
+use borrow.Author.Tests.{ne-eqb, eqb-true}
 use Rattle.token.specs.Token.{byte-class, letter, digit, layout-byte, atom-byte}
+use Rattle.token.specs.declared.ByteClass.{ByteClass}
 use Rattle.token.specs.declared.ByteClass.the-variants.{Layout, Comment, LParen, RParen, Atom, Refused}
 
 abbrev pub in-range : ℕ → Bool
@@ -49,6 +50,43 @@ atom-last false false false false false e = cc
 pub not-atom-class : (b : ℕ) → atom-byte b ≡ false → byte-class b ≡ Atom → ⊥
 unfolding byte-class
 not-atom-class b f e = true≢false (sym (atom-last (layout-byte b) (eqb b 59) (eqb b 40) (eqb b 41) (atom-byte b) e) ∙ f)
+
+-- The classes of the parentheses are given by one byte each.
+abbrev classes : Bool → Bool → Bool → Bool → Bool → ByteClass
+classes l c o p a = cond l Layout (cond c Comment (cond o LParen (cond p RParen (cond a Atom Refused))))
+
+open-third : (l c o p a : Bool) → classes l c o p a ≡ LParen → o ≡ true
+open-third true c o p a e = absurd (apart cc)
+open-third false true o p a e = absurd (apart cc)
+open-third false false true p a e = refl
+open-third false false false true a e = absurd (apart cc)
+open-third false false false false true e = absurd (apart cc)
+open-third false false false false false e = absurd (apart cc)
+
+close-fourth : (l c o p a : Bool) → classes l c o p a ≡ RParen → p ≡ true
+close-fourth true c o p a e = absurd (apart cc)
+close-fourth false true o p a e = absurd (apart cc)
+close-fourth false false true p a e = absurd (apart cc)
+close-fourth false false false true a e = refl
+close-fourth false false false false true e = absurd (apart cc)
+close-fourth false false false false false e = absurd (apart cc)
+
+module _ (b : ℕ) where
+  pub open-class : b ≡ 40 → byte-class b ≡ LParen
+  unfolding byte-class
+  open-class e = ap byte-class e
+
+  pub close-class : b ≡ 41 → byte-class b ≡ RParen
+  unfolding byte-class
+  close-class e = ap byte-class e
+
+  pub not-open-class : Not b 40 → byte-class b ≡ LParen → ⊥
+  unfolding byte-class
+  not-open-class n e = n (eqb-true b 40 (open-third (layout-byte b) (eqb b 59) (eqb b 40) (eqb b 41) (atom-byte b) e))
+
+  pub not-close-class : Not b 41 → byte-class b ≡ RParen → ⊥
+  unfolding byte-class
+  not-close-class n e = n (eqb-true b 41 (close-fourth (layout-byte b) (eqb b 59) (eqb b 40) (eqb b 41) (atom-byte b) e))
 
 -- Behind the space, only `;` goes on with layout.
 pub late-class : (b : ℕ) → 32 < b → Not b 59 → (byte-class b ≡ Layout → ⊥) × (byte-class b ≡ Comment → ⊥)

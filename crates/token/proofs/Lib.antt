@@ -2,3 +2,4 @@ mod Classes
 pub mod Runs
 mod Comments
 pub mod Bounds
+mod CommentBlocks

@@ -2,9 +2,10 @@
 // The port of `Lexer` in surface/parser.rs. Document 01, "The token".
 ghost use mathlib.Core.Path.{_≡_};
 ghost use mathlib.Core.Bool.{false};
-ghost use lib.ListN.{drop};
-ghost use Rattle.token.specs.Token.{atom-byte, byte-class, layout-end, atom-from, next-token};
-ghost use Rattle.token.specs.Comments.{comment-end};
+ghost use Prim.Native.Nat.{_+_, _≤_, _<_};
+ghost use lib.ListN.{length, take, drop};
+ghost use Rattle.token.specs.Token.{atom-byte, byte-class, layout-end, atom-from, token-here, next-token};
+ghost use Rattle.token.specs.Comments.{unbroken, comment-end, SameComment};
 
 // What a byte is for.
 pub enum ByteClass {
@@ -78,11 +79,47 @@ fn is_atom_byte(b: u8) -> bool
     b == 45
 }
 
+// How many bytes of a comment are looked at together.
+const BLOCK: usize = 16;
+
+// Whether a block has no byte 10. This loop becomes a few instructions on the whole block.
+fn comment_block(s: &[u8], at: usize) -> bool
+    requires { ⌜ at + 16 ≤ length (now s) ⌝ }
+    ensures { λ r. ⌜ r ≡ unbroken (take 16 (drop at (now (s .entry)))) ⌝ }
+{
+    let mut all = true;
+    let mut i = 0;
+    while i < BLOCK {
+        if s[at + i] == 10 {
+            all = false;
+        }
+        i += 1;
+    }
+    all
+}
+
+// Behind the blocks from `at` on in which a comment goes on.
+fn comment_blocks(s: &[u8], at: usize) -> usize
+    requires { ⌜ at ≤ length (now s) ⌝ }
+    ensures { λ r. ⌜ SameComment (now (s .entry)) at r ⌝ }
+{
+    let n = s.len();
+    let mut i = at;
+    while BLOCK <= n - i {
+        if !comment_block(s, i) {
+            return i;
+        }
+        i += BLOCK;
+    }
+    i
+}
+
 // Where the comment that `at` is in ends.
 fn comment_end(s: &[u8], at: usize) -> usize
+    requires { ⌜ at ≤ length (now s) ⌝ }
     ensures { λ r. ⌜ r ≡ comment-end at (drop at (now (s .entry))) ⌝ }
 {
-    let mut pos = at;
+    let mut pos = comment_blocks(s, at);
     while pos < s.len() {
         if s[pos] == 10 {
             return pos;
@@ -155,6 +192,37 @@ pub fn lex_atom(s: &[u8], start: usize, at: usize) -> Lexed
     })
 }
 
+// The token that starts at `start`, where no layout is. Small letters and parentheses, the most frequent, are told first.
+fn token_at(s: &[u8], start: usize) -> Lexed
+    requires { ⌜ start < length (now s) ⌝ }
+    ensures { λ r. ⌜ r ≡ token-here start (drop start (now (s .entry))) ⌝ }
+{
+    let b = s[start];
+    if b < 97 {
+        if b == 40 {
+            return Lexed::Got(Token {
+                kind: TokenKind::LParen,
+                start: start,
+                end: start + 1,
+            });
+        }
+        if b == 41 {
+            return Lexed::Got(Token {
+                kind: TokenKind::RParen,
+                start: start,
+                end: start + 1,
+            });
+        }
+    }
+    if is_atom_byte(b) {
+        return lex_atom(s, start, start + 1);
+    }
+    Lexed::Refused(Refusal {
+        class: 1,
+        place: Place::At(start),
+    })
+}
+
 // The first token at or behind `at`.
 pub fn next_token(s: &[u8], at: usize) -> Lexed
     ensures { λ r. ⌜ r ≡ next-token (now (s .entry)) at ⌝ }
@@ -167,25 +235,5 @@ pub fn next_token(s: &[u8], at: usize) -> Lexed
             end: start,
         });
     }
-    let b = s[start];
-    if is_atom_byte(b) {
-        return lex_atom(s, start, start + 1);
-    }
-    let class = byte_class(b);
-    match class {
-        ByteClass::LParen => Lexed::Got(Token {
-            kind: TokenKind::LParen,
-            start: start,
-            end: start + 1,
-        }),
-        ByteClass::RParen => Lexed::Got(Token {
-            kind: TokenKind::RParen,
-            start: start,
-            end: start + 1,
-        }),
-        _ => Lexed::Refused(Refusal {
-            class: 1,
-            place: Place::At(start),
-        }),
-    }
+    token_at(s, start)
 }

@@ -1,6 +1,7 @@
 mod FirstBytes
 mod ValidFrom
 mod Sequences
+mod Pairs
 mod Passed
 mod Runs
 mod Mark

@@ -11,7 +11,7 @@ use lib.Seq.{drop-drop}
 use borrow.Author.Tests.{ltb-true}
 use Rattle.token.proofs.Runs.{drop-next}
 use Rattle.utf8.specs.Utf8.{table-3-7, following, valid-from, valid-length}
-use Rattle.utf8.specs.Sequences.{sequence}
+use Rattle.utf8.specs.Sequences.{sequence, Pairs}
 use Rattle.utf8.specs.Ascii.{ascii-end}
 use Rattle.utf8.proofs.FirstBytes.{line, line-of}
 use Rattle.utf8.proofs.ValidFrom.{all-whole}
@@ -35,6 +35,13 @@ module _ (s : List ℕ) (i : ℕ) (p : Passed s i) where
 
   pub passed-broken : _≡_ {A = ℕ} 0 (sequence (drop i s)) → i ≡ valid-length s
   passed-broken e = sym (p ∙ no-sequence i (drop i s) e)
+
+  -- Sequences of two bytes.
+  pub passed-pairs : (r : ℕ) → Pairs s i r → Passed s r
+  passed-pairs r q = p ∙ q .same
+
+  pub stuck-pairs : (r : ℕ) → Pairs s i r → r ≡ i → i < length s → 0x80 ≤ getD s i 0 → getD s i 0 < 0xE0 → i ≡ valid-length s
+  stuck-pairs r q e h l g = passed-broken (rw e at (q .stop (rw e h) (rw e l) (rw e g)))
 
 -- An ASCII byte is a whole sequence.
 ascii-line : (b : ℕ) → b < 0x80 → some [] ≡ line b

@@ -1,11 +1,12 @@
 -- Ours: a sequence by itself, which `valid_up_to` passes over at once. Assumes nothing.
+use mathlib.Core.Path.{_≡_}
 use mathlib.Core.List.{List, [], _∷_}
 use mathlib.Core.Option.{none, some}
 use mathlib.Core.Bool.{Bool, true, false, _&&_, cond}
-use Prim.Native.Nat.{ℕ, suc, _+_, _≤_}
+use Prim.Native.Nat.{ℕ, suc, _+_, _≤_, _<_}
 use lib.Dec.{eqb}
-use lib.ListN.{length, getD}
-use Rattle.utf8.specs.Utf8.{Range, range, in-range, table-3-7, following}
+use lib.ListN.{length, getD, drop}
+use Rattle.utf8.specs.Utf8.{Range, range, in-range, table-3-7, following, valid-from}
 
 -- Whether a list begins with one byte out of each range.
 unfoldable pub begins : List Range → List ℕ → Bool
@@ -31,3 +32,10 @@ pub record First (s : List ℕ) (at n low high : ℕ) : Type 0 where
   pub inside : at + n ≤ length s
   pub least : low ≤ getD s at 0
   pub greatest : getD s at 0 ≤ high
+
+-- What is valid from r on is valid from `at` on; where a first byte of two, or none, stands at r, no sequence does.
+pub record Pairs (s : List ℕ) (at r : ℕ) : Type 0 where
+  pub low : at ≤ r
+  pub high : r ≤ length s
+  pub same : valid-from at at [] (drop at s) ≡ valid-from r r [] (drop r s)
+  pub stop : r < length s → 0x80 ≤ getD s r 0 → getD s r 0 < 0xE0 → _≡_ {A = ℕ} 0 (sequence (drop r s))

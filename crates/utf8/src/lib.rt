@@ -1,7 +1,7 @@
 // Whether a source is UTF-8, and whether it begins with EF BB BF: what `parse_surface` asks of the standard library.
 ghost use mathlib.Core.Path.{_≡_};
 ghost use Rattle.utf8.specs.Utf8.{range, in-range, valid-length, byte-order-mark};
-ghost use Rattle.utf8.specs.Sequences.{second, sequence, First};
+ghost use Rattle.utf8.specs.Sequences.{second, sequence, First, Pairs};
 ghost use Rattle.utf8.specs.Ascii.{ascii, ascii-end, SameEnd};
 ghost use Prim.Native.Nat.{_+_, _≤_};
 ghost use lib.ListN.{length, take, drop};
@@ -60,25 +60,32 @@ fn four(s: &[u8], at: usize) -> usize
     4
 }
 
-// The length of the sequence at `at`, whose first byte is not ASCII; 0 where it is broken or cut off.
-fn sequence_at(s: &[u8], at: usize) -> usize
-    requires { ⌜ First (now s) at 1 0x80 0xFF ⌝ }
+// Behind the sequences of two bytes from `at` on.
+fn skip_pairs(s: &[u8], at: usize) -> usize
+    requires { ⌜ at ≤ length (now s) ⌝ }
+    ensures { λ r. ⌜ Pairs (now (s .entry)) at r ⌝ }
+{
+    let n = s.len();
+    let mut i = at;
+    while 2 <= n - i {
+        if !between(0xC2, 0xDF, s[i]) {
+            return i;
+        }
+        if !between(0x80, 0xBF, s[i + 1]) {
+            return i;
+        }
+        i += 2;
+    }
+    i
+}
+
+// The length of the sequence at `at`, whose first byte is behind those of two bytes; 0 where it is broken or cut off.
+fn long_sequence(s: &[u8], at: usize) -> usize
+    requires { ⌜ First (now s) at 1 0xE0 0xFF ⌝ }
     ensures { λ r. ⌜ r ≡ sequence (drop at (now (s .entry))) ⌝ }
 {
     let b = s[at];
     let left = s.len() - at;
-    if b < 0xE0 {
-        if b < 0xC2 {
-            return 0;
-        }
-        if left < 2 {
-            return 0;
-        }
-        if between(0x80, 0xBF, s[at + 1]) {
-            return 2;
-        }
-        return 0;
-    }
     if b < 0xF0 {
         if left < 3 {
             return 0;
@@ -130,18 +137,17 @@ fn skip_blocks(s: &[u8], at: usize) -> usize
     i
 }
 
-// The first byte from `at` on that is not ASCII, or the end. Often it is the first: a space stands alone between two words.
+// The first byte from `at` on that is not ASCII, or the end. Often it stands at `at`, behind a space between two words.
 fn skip_ascii(s: &[u8], at: usize) -> usize
     requires { ⌜ at ≤ length (now s) ⌝ }
     ensures { λ r. ⌜ r ≡ ascii-end at (drop at (now (s .entry))) ⌝ }
 {
-    let mut i = at;
-    if i < s.len() {
-        if 0x80 <= s[i] {
-            return i;
+    if at < s.len() {
+        if 0x80 <= s[at] {
+            return at;
         }
     }
-    i = skip_blocks(s, i);
+    let mut i = skip_blocks(s, at);
     while i < s.len() {
         if 0x80 <= s[i] {
             return i;
@@ -158,10 +164,17 @@ pub fn valid_up_to(s: &[u8]) -> usize
 {
     let mut i = 0;
     while i < s.len() {
-        if s[i] < 0x80 {
+        let b = s[i];
+        if b < 0x80 {
             i = skip_ascii(s, i + 1);
+        } else if b < 0xE0 {
+            let behind = skip_pairs(s, i);
+            if behind == i {
+                return i;
+            }
+            i = behind;
         } else {
-            let n = sequence_at(s, i);
+            let n = long_sequence(s, i);
             if n == 0 {
                 return i;
             }

@@ -5,3 +5,4 @@ mod Numbers
 mod Lookup
 pub mod Names
 pub mod Reserved
+mod Differences

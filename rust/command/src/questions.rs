@@ -5,7 +5,7 @@ use crate::source::Source;
 use std::ffi::OsStr;
 use std::fmt::Write;
 use std::path::Path;
-use sulyterom::{Class, Comparison, LONGEST_SOURCE, Loader, Refusal, Tables, Target, TokenKind, load};
+use sulyterom::{Class, Comparison, LONGEST_SOURCE, Loader, Refusal, Tables, Target, TokenKind};
 
 /// "It lends 1,024 rows to each row table, 256 declarations and a work area of 16,384 words."
 pub const ROWS: usize = 1_024;
@@ -73,10 +73,13 @@ fn refused(source: &Source, refusal: Refusal, storage: Storage) -> Answer {
 
 pub fn list(storage: Storage, file: &OsStr) -> Result<Answer, NotAsked> {
     let source = Source::read(file)?;
-    let mut tables = storage.tables(source.bytes.len());
-    Ok(match load(&source.bytes, &mut tables) {
-        Ok(loaded) => Answer::new(Status::Yes, loaded.to_string()),
-        Err(refusal) => refused(&source, refusal, storage),
+    let listing = match storage {
+        Storage::Document01 => sulyterom::list(&source.bytes, &mut storage.tables(source.bytes.len())),
+        Storage::Large => Loader::new().list(&source.bytes),
+    };
+    Ok(match listing.refusal {
+        None => Answer::new(Status::Yes, listing.text),
+        Some(refusal) => Answer::refused(listing.text, sentence::of(&source, refusal, storage)),
     })
 }
 

@@ -3,7 +3,7 @@ use mathlib.Core.Path.{_≡_, refl, sym, ap, _∙_}
 use native.Mathlib.Omega.{arith}
 use borrow.Author.Needs.{needs}
 use Prim.Native.Nat.{_-_}
-use Rattle.depends.specs.Search.{first-global}
+use Rattle.depends.specs.inner.Search.{first-global}
 use Rattle.depends.proofs.Searching.{found, passed, ended}
 use Rattle.depends.proofs.find_global.Statement.{statement}
 use Rattle.depends.proofs.find_global.Tie as tie

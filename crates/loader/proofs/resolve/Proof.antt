@@ -8,7 +8,7 @@ use Rattle.terms.specs.Resolution.{first-refused}
 use Rattle.surface.specs.declared.Answer.{Answer}
 use Rattle.surface.specs.Reader.{nowhere}
 use Rattle.token.specs.declared.Refusal.{Refusal}
-use Rattle.loader.specs.Leaving.{Resolves, ResolvesTo}
+use Rattle.loader.specs.inner.Stored.{Resolves, ResolvesTo}
 use Rattle.loader.proofs.Resolving.{all-resolved, name-refused}
 use borrow.Author.Needs.{needs}
 use Rattle.loader.proofs.resolve.Statement.{statement}

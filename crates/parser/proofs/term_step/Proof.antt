@@ -28,8 +28,8 @@ enum-known-begun-3 c = search needs
 open-frame-requires : tie.Need-open-frame-requires
 open-frame-requires c κs = search needs
 
-add-t22 : tie.Need-add-t22
-add-t22 c = search needs
+add-t23 : tie.Need-add-t23
+add-t23 c = search needs
 
 same-length : tie.Need-same-length
 same-length c = search needs
@@ -37,9 +37,9 @@ same-length c = search needs
 returns : tie.Need-returns
 returns c =
     let o = c .before .before .before .before .before .before .before .before .before .before .before .before in
-    let k = c .before .before .before .open-frame in
+    let k = c .before .before .open-frame in
     open-step (o .args .s .now) (o .args .table .now) (o .args .work .now) (o .args .st) (o .pre .0) _ (o .pre .1) (c .before .before .before .before .before .before .before .before .begin-term .ensures) _ _ _ _
-    (c .before .before .before .before .before .before .begun3 .given .1) (sym (k .ensures .0) ∙ c .if1 .taken) (k .ensures .1) (k .kept .0)
+    (c .before .before .before .before .before .before .begun3 .given .1) (c .before .before .before .before .if1 .taken) (k .ensures) (k .kept .0)
 
 refusal-requires : tie.Need-refusal-requires
 refusal-requires c κs = search needs
@@ -59,14 +59,11 @@ returns-3 c =
     leaf-step (o .args .s .now) (o .args .table .now) (o .args .work .now) (o .args .st) (o .pre .0) _ (o .pre .1) (c .before .before .before .before .before .before .before .before .begin-term .ensures) _ _ _ _
     (c .before .before .before .before .before .before .begun2 .given .1) (k .ensures .0) (k .ensures .1 ∙ ap (stored-at 8 (o .args .table .now) (o .args .st .rows)) (c .before .before .before .before .surface-row .ensures))
 
-same-length-3 : tie.Need-same-length-3
-same-length-3 c = search needs
-
 returns-4 : tie.Need-returns-4
 returns-4 c =
-    let o = c .before .before .before .before .before .before .before .before .before .before .before .before .before in
-    deep-step (o .args .s .now) (o .args .table .now) (o .args .work .now) (o .args .st) (o .pre .0) _ (o .pre .1) (c .before .before .before .before .before .before .before .before .before .begin-term .ensures) _ _ _
-    (c .before .before .before .before .before .before .before .begun3 .given .1) (sym (c .before .before .before .before .open-frame .ensures .0) ∙ c .before .if1 .left) ∙ ap refused (sym (c .refusal .ensures))
+    let o = c .before .before .before .before .before .before .before .before .before in
+    deep-step (o .args .s .now) (o .args .table .now) (o .args .work .now) (o .args .st) (o .pre .0) _ (o .pre .1) (c .before .before .before .before .before .begin-term .ensures) _ _ _
+    (c .before .before .before .begun3 .given .1) (c .before .if1 .left) ∙ ap refused (sym (c .refusal .ensures))
 
 pub term-step-spec : {M : Type 1} → statement M
 term-step-spec =
@@ -79,12 +76,11 @@ term-step-spec =
     push-term-requires
     enum-known-begun-3
     open-frame-requires
-    add-t22
+    add-t23
     same-length
     returns
     refusal-requires
     returns-2
     same-length-2
     returns-3
-    same-length-3
     returns-4)

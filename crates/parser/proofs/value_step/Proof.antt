@@ -4,7 +4,7 @@ use Prim.Native.Nat.{suc, _-_}
 use native.Mathlib.Omega.{arith}
 use Rattle.terms.specs.Forms.{arity-of}
 use Rattle.rows.specs.Places.{stored-at}
-use Rattle.parser.proofs.Steps.{more-step, unclosed-step, close-step}
+use Rattle.parser.proofs.Steps.{room, takes, more-step, unclosed-step, close-step}
 use borrow.Author.Needs.{needs}
 use Rattle.parser.proofs.value_step.Statement.{statement}
 use Rattle.parser.proofs.value_step.Tie as tie
@@ -13,7 +13,12 @@ sub-d : tie.Need-sub-d
 sub-d c = search needs
 
 push-arg-requires : tie.Need-push-arg-requires
-push-arg-requires c κs = search needs
+push-arg-requires c κs =
+    let o = c .before .before .before .before in
+    let a = o .args in
+    let d = a .st .depth - 1 in
+    let deep : a .st .depth ≡ suc d = omega (arith, o .pre .1 .1) in
+    (room (a .s .now) (a .table .now) (a .work .now) (a .st) (o .pre .0) d (o .pre .1 .0) deep, takes (a .s .now) (a .table .now) (a .work .now) (a .st) (o .pre .0) d (o .pre .1 .0) deep)
 
 frame-len-requires : tie.Need-frame-len-requires
 frame-len-requires c κs = search needs
@@ -36,7 +41,7 @@ returns c =
     let d = a .st .depth - 1 in
     let deep : a .st .depth ≡ suc d = omega (arith, o .pre .1 .1) in
     let kinds = y .arity .ensures ∙ ap arity-of (y .before .frame-kind .ensures) in
-    more-step (a .s .now) (a .table .now) (a .work .now) (a .st) (o .pre .0) d (o .pre .1 .0) deep _ (k .ensures .1) (omega (arith, y .before .before .before .frame-len .ensures, kinds, c .if1 .taken)) (k .kept .0)
+    more-step (a .s .now) (a .table .now) (a .work .now) (a .st) (o .pre .0) d (o .pre .1 .0) deep _ (k .ensures) (omega (arith, y .before .before .before .frame-len .ensures, kinds, c .if1 .taken)) (k .kept .0)
 
 expect-rparen-requires : tie.Need-expect-rparen-requires
 expect-rparen-requires c κs = search needs
@@ -70,7 +75,7 @@ returns-2 c =
     let d = a .st .depth - 1 in
     let deep : a .st .depth ≡ suc d = omega (arith, o .pre .1 .1) in
     let kinds = y .arity .ensures ∙ ap arity-of (y .before .frame-kind .ensures) in
-    unclosed-step (a .s .now) (a .table .now) (a .work .now) (a .st) (o .pre .0) d (o .pre .1 .0) deep _ (k .ensures .1) (omega (arith, y .before .before .before .frame-len .ensures, kinds, c .before .before .before .before .if1 .left)) _ (c .before .before .before .expect-rparen .ensures) _ (c .before .close .given .1)
+    unclosed-step (a .s .now) (a .table .now) (a .work .now) (a .st) (o .pre .0) d (o .pre .1 .0) deep _ (k .ensures) (omega (arith, y .before .before .before .frame-len .ensures, kinds, c .before .before .before .before .if1 .left)) _ (c .before .before .before .expect-rparen .ensures) _ (c .before .close .given .1)
 
 same-length-3 : tie.Need-same-length-3
 same-length-3 c = search needs
@@ -88,7 +93,7 @@ returns-3 c =
     let deep : a .st .depth ≡ suc d = omega (arith, o .pre .1 .1) in
     let kinds = y .arity .ensures ∙ ap arity-of (y .before .frame-kind .ensures) in
     let p = c .before .before .push-term in
-    close-step (a .s .now) (a .table .now) (a .work .now) (a .st) (o .pre .0) d (o .pre .1 .0) deep _ (k .ensures .1) (omega (arith, y .before .before .before .frame-len .ensures, kinds, c .before .before .before .before .before .before .before .before .before .before .before .before .before .if1 .left)) _ (c .before .before .before .before .before .before .before .before .before .before .before .before .expect-rparen .ensures) _ _ _ _
+    close-step (a .s .now) (a .table .now) (a .work .now) (a .st) (o .pre .0) d (o .pre .1 .0) deep _ (k .ensures) (omega (arith, y .before .before .before .frame-len .ensures, kinds, c .before .before .before .before .before .before .before .before .before .before .before .before .before .if1 .left)) _ (c .before .before .before .before .before .before .before .before .before .before .before .before .expect-rparen .ensures) _ _ _ _
     (c .before .before .before .before .before .before .before .before .before .before .close2 .given .1) (c .before .before .before .before .before .before .before .load-frame .ensures) (k .kept .0) (p .ensures .0)
     (p .ensures .1 ∙ ap (stored-at 8 (a .table .now) (a .st .rows)) (c .before .before .before .before .surface-row .ensures))
 

@@ -24,7 +24,9 @@ same-length-3 : tie.Need-same-length-3
 same-length-3 c = search needs
 
 returns : tie.Need-returns
-returns c = ap rows-read (sym (c .before .read .given .1)) ∙ ap (λ (p : Parsed). rows-read (p .answer)) (c .before .before .before .before .before .before .before .before .before .parse-surface .ensures)
+returns c =
+    let e = c .before .before .before .before .before .before .before .before .before .parse-surface .ensures in
+    (ap rows-read (sym (c .before .read .given .1)) ∙ ap (λ (p : Parsed). rows-read (p .answer)) e, ap (λ (p : Parsed). p .tables) e)
 
 same-length-4 : tie.Need-same-length-4
 same-length-4 c = search needs
@@ -37,7 +39,8 @@ same-length-6 c = search needs
 
 returns-2 : tie.Need-returns-2
 returns-2 c =
-    sym (ap (λ (p : Parsed). rows-read (p .answer)) (sym (c .before .before .before .before .before .before .before .before .parse-surface .ensures)) ∙ ap rows-read (c .enum-told .given .1))
+    let e = c .before .before .before .before .before .before .before .before .parse-surface .ensures in
+    (sym (ap (λ (p : Parsed). rows-read (p .answer)) (sym e) ∙ ap rows-read (c .enum-told .given .1)), ap (λ (p : Parsed). p .tables) e)
 
 pub sulyterom-parse-spec : {M : Type 1} → statement M
 sulyterom-parse-spec =

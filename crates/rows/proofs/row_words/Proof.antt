@@ -1,69 +1,82 @@
 -- `rows::row_words` meets its contract. Assumes nothing.
-use mathlib.Core.Path.{sym, _∙_}
-use mathlib.Core.List.{[], _∷_}
+use Prim.Native.Nat.{ℕ}
+use mathlib.Core.Path.{sym, ap, _∙_}
+use mathlib.Core.List.{List, [], _∷_}
 use native.Mathlib.Omega.{arith}
-use lib.ListN.{take, length-take}
+use lib.ListN.{getD, take, length-take}
+use Rattle.rows.proofs.Words.{pad-words, row-with-span, row-without-span}
 use borrow.Author.Needs.{needs}
-use Rattle.rows.proofs.Words.{row-with-span, row-without-span}
 use Rattle.rows.proofs.row_words.Statement.{statement}
 use Rattle.rows.proofs.row_words.Tie as tie
 
-arg-or-zero-requires : tie.Need-arg-or-zero-requires
-arg-or-zero-requires c κs = search needs
+first-args-requires : tie.Need-first-args-requires
+first-args-requires c κs = search needs
 
-arg-or-zero-requires-2 : tie.Need-arg-or-zero-requires-2
-arg-or-zero-requires-2 c κs = search needs
+array-read-t12 : tie.Need-array-read-t12
+array-read-t12 c = search needs
 
-arg-or-zero-requires-3 : tie.Need-arg-or-zero-requires-3
-arg-or-zero-requires-3 c κs = search needs
+array-read-t15 : tie.Need-array-read-t15
+array-read-t15 c = search needs
 
-arg-or-zero-requires-4 : tie.Need-arg-or-zero-requires-4
-arg-or-zero-requires-4 c κs = search needs
+array-read-t18 : tie.Need-array-read-t18
+array-read-t18 c = search needs
 
-arg-or-zero-requires-5 : tie.Need-arg-or-zero-requires-5
-arg-or-zero-requires-5 c κs = search needs
+array-read-t21 : tie.Need-array-read-t21
+array-read-t21 c = search needs
+
+array-read-t24 : tie.Need-array-read-t24
+array-read-t24 c = search needs
 
 returns : tie.Need-returns
 returns c =
-    let c4 = c .before in
-    let c3 = c4 .before in
-    let c2 = c3 .before in
-    let c1 = c2 .before in
-    let c0 = c1 .before in
-    let a = c0 .before .args in
-    (λ i.
-    a .kind ∷ a .start ∷ a .length ∷ c0 .arg-or-zero .ensures i ∷ c1 .arg-or-zero2 .ensures i ∷ c2 .arg-or-zero3 .ensures i ∷
-    c3 .arg-or-zero4 .ensures i ∷ c4 .arg-or-zero5 .ensures i ∷ [])
+    let a = c .before .before .args in
+    ap (λ (w : List ℕ). a .kind ∷ a .start ∷ a .length ∷ getD w 0 0 ∷ getD w 1 0 ∷ getD w 2 0 ∷ getD w 3 0 ∷ getD w 4 0 ∷ [])
+    (c .before .first-args .ensures ∙ pad-words 6 (take (a .len) (a .args)))
     ∙ sym (row-with-span (a .kind) (a .start) (a .length) (take (a .len) (a .args)) (a .span) (c .if1 .taken))
 
-arg-or-zero-requires-6 : tie.Need-arg-or-zero-requires-6
-arg-or-zero-requires-6 c κs = search needs
+array-read-t27 : tie.Need-array-read-t27
+array-read-t27 c = search needs
+
+array-read-t30 : tie.Need-array-read-t30
+array-read-t30 c = search needs
+
+array-read-t33 : tie.Need-array-read-t33
+array-read-t33 c = search needs
+
+array-read-t36 : tie.Need-array-read-t36
+array-read-t36 c = search needs
+
+array-read-t39 : tie.Need-array-read-t39
+array-read-t39 c = search needs
+
+array-read-t42 : tie.Need-array-read-t42
+array-read-t42 c = search needs
 
 returns-2 : tie.Need-returns-2
 returns-2 c =
-    let c4 = c .before .before in
-    let c3 = c4 .before in
-    let c2 = c3 .before in
-    let c1 = c2 .before in
-    let c0 = c1 .before in
-    let o = c0 .before in
+    let o = c .before .before in
     let a = o .args in
-    (λ i.
-    a .kind ∷ c0 .arg-or-zero .ensures i ∷ c1 .arg-or-zero2 .ensures i ∷ c2 .arg-or-zero3 .ensures i ∷ c3 .arg-or-zero4 .ensures i ∷
-    c4 .arg-or-zero5 .ensures i ∷ c .arg-or-zero6 .ensures i ∷ 0 ∷ [])
+    ap (λ (w : List ℕ). a .kind ∷ getD w 0 0 ∷ getD w 1 0 ∷ getD w 2 0 ∷ getD w 3 0 ∷ getD w 4 0 ∷ getD w 5 0 ∷ 0 ∷ [])
+    (c .before .first-args .ensures ∙ pad-words 6 (take (a .len) (a .args)))
     ∙ sym
-    (row-without-span (a .kind) (a .start) (a .length) (take (a .len) (a .args)) (a .span) (c .before .if1 .left)
+    (row-without-span (a .kind) (a .start) (a .length) (take (a .len) (a .args)) (a .span) (c .if1 .left)
     (simp length-take (omega (arith, o .good .1 .1 .1 .1 .0 .1 .0 .1))))
 
 pub row-words-spec : {M : Type 1} → statement M
 row-words-spec =
     tie.close
     (tie.spec
-    arg-or-zero-requires
-    arg-or-zero-requires-2
-    arg-or-zero-requires-3
-    arg-or-zero-requires-4
-    arg-or-zero-requires-5
+    first-args-requires
+    array-read-t12
+    array-read-t15
+    array-read-t18
+    array-read-t21
+    array-read-t24
     returns
-    arg-or-zero-requires-6
+    array-read-t27
+    array-read-t30
+    array-read-t33
+    array-read-t36
+    array-read-t39
+    array-read-t42
     returns-2)

@@ -3,20 +3,20 @@ use Prim.Native.Nat.{_/_}
 use mathlib.Core.Path.{sym, _∙_}
 use native.Mathlib.Omega.{arith}
 use lib.ListN.{length}
-use borrow.Author.Needs.{needs}
 use borrow.Author.Tests.{le-ltb}
 use Rattle.rows.proofs.Storing.{stored-there, stored-nowhere}
+use borrow.Author.Needs.{needs}
 use Rattle.rows.proofs.store_record.Statement.{statement}
 use Rattle.rows.proofs.store_record.Tie as tie
 
 mul-at : tie.Need-mul-at
 mul-at c = search needs
 
-slice-aggregate-store : tie.Need-slice-aggregate-store
-slice-aggregate-store c = search needs
+slice-aggregate-put : tie.Need-slice-aggregate-put
+slice-aggregate-put c = search needs
 
-store-requires : tie.Need-store-requires
-store-requires c κs = search needs
+put-requires : tie.Need-put-requires
+put-requires c κs = search needs
 
 same-length : tie.Need-same-length
 same-length c = search needs
@@ -27,7 +27,7 @@ returns c =
     let i = s .before .before .before in
     let o = i .before .before in
     let law = stored-there 5 (o .args .table .now) (o .args .k) (o .args .t3) (o .good .1 .1 .0 .1 .0 .1) (omega arith) (i .if1 .taken) in
-    (s .store .ensures .0 ∙ law .0, s .store .ensures .1 ∙ law .1)
+    (law .0, s .put .ensures ∙ law .1)
 
 returns-2 : tie.Need-returns-2
 returns-2 c =
@@ -36,4 +36,5 @@ returns-2 c =
     (sym (le-ltb (a .k) (length t / 5) (c .if1 .left)), sym (stored-nowhere 5 t (a .k) (a .t3) (c .if1 .left)))
 
 pub store-record-spec : {M : Type 1} → statement M
-store-record-spec = tie.close (tie.spec mul-at slice-aggregate-store store-requires same-length returns returns-2)
+store-record-spec =
+    tie.close (tie.spec mul-at slice-aggregate-put put-requires same-length returns returns-2)

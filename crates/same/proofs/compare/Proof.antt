@@ -1,6 +1,6 @@
 -- `same::compare` meets its contract. Assumes nothing.
 use mathlib.Core.Path.{sym, subst, _∙_}
-use Rattle.same.specs.Contents.{SameBefore}
+use Rattle.same.specs.inner.Contents.{SameBefore}
 use borrow.Author.Needs.{needs}
 use Rattle.same.proofs.compare.Statement.{statement}
 use Rattle.same.proofs.compare.Tie as tie

@@ -3,7 +3,7 @@ use Prim.Native.Nat.{_-_, _≤_}
 use mathlib.Core.Logic.{inl, inr}
 use native.Mathlib.Omega.{arith}
 use borrow.Author.Tests.{not-true, not-false}
-use Rattle.same.specs.Contents.{SameBefore}
+use Rattle.same.specs.inner.Contents.{SameBefore}
 use Rattle.same.proofs.Declarations.{none-before, one-short, differs, goes-on}
 use Rattle.same.proofs.first_difference.Statement.{statement}
 use Rattle.same.proofs.first_difference.Tie as tie

@@ -5,7 +5,7 @@ use Rattle.same.proofs.Contents.{holds, fails}
 use Prim.Native.Nat.{_-_, _≤_}
 use native.Mathlib.Omega.{arith}
 use borrow.Author.Needs.{needs}
-use Rattle.same.specs.Contents.{SameRow, SameRows}
+use Rattle.same.specs.inner.Contents.{SameRow, SameRows}
 use Rattle.same.proofs.same_rows.Statement.{statement}
 use Rattle.same.proofs.same_rows.Tie as tie
 

@@ -1,6 +1,7 @@
 -- `find_name` meets its contract. Assumes nothing.
-use mathlib.Core.Path.{refl, sym, _∙_, ap}
+use mathlib.Core.Path.{refl, sym, _∙_, ap, subst}
 use Rattle.scope.specs.Scope.{place-of, local-names, declared-names}
+use Rattle.scope.specs.Index.{Searched}
 use Rattle.scope.proofs.Search.{referred}
 use borrow.Author.Needs.{needs}
 use Rattle.scope.proofs.find_name.Statement.{statement}
@@ -39,7 +40,7 @@ returns-2 c =
     let x = c .before .before .before .before in
     referred (a .s .now) ls gs (a .start) (a .length) _ _
     (sym (ap place-of (x .enum-told .given .1)) ∙ x .before .before .find-local .ensures)
-    (sym (ap place-of (c .before .g .given .1)) ∙ c .before .before .before .find-indexed .ensures)
+    (subst (Searched (a .s .now) (a .declarations .now) _ (a .d) (a .index .now)) (c .before .g .given .1) (c .before .before .before .find-indexed .ensures))
 
 returns-3 : tie.Need-returns-3
 returns-3 c =
@@ -49,7 +50,7 @@ returns-3 c =
     let x = c .before .before .before in
     referred (a .s .now) ls gs (a .start) (a .length) _ _
     (sym (ap place-of (x .enum-told .given .1)) ∙ x .before .before .find-local .ensures)
-    (sym (ap place-of (c .enum-told2 .given .1)) ∙ c .before .before .find-indexed .ensures)
+    (subst (Searched (a .s .now) (a .declarations .now) _ (a .d) (a .index .now)) (c .enum-told2 .given .1) (c .before .before .find-indexed .ensures) .0)
 
 pub find-name-spec : {M : Type 1} → statement M
 find-name-spec =

@@ -1,95 +1,39 @@
 -- `tables::store` meets its contract. Assumes nothing.
-use Prim.Native.Nat.{_+_, _-_, _≤_}
-use mathlib.Core.Path.{_≡_, refl, sym, _∙_}
+use Prim.Native.Nat.{_+_, _≤_}
+use mathlib.Core.Path.{sym, _∙_}
 use native.Mathlib.Omega.{arith}
-use borrow.Author.Needs.{needs}
 use borrow.Author.Tests.{le-leb, lt-leb}
-use lib.ListN.{length, length-set}
-use Rattle.tables.proofs.Storing.{Storing, store-none, store-more, store-all, stored-not}
+use lib.ListN.{length}
+use Rattle.tables.proofs.Storing.{stored-fits, stored-not}
+use borrow.Author.Needs.{needs}
 use Rattle.tables.proofs.store.Statement.{statement}
 use Rattle.tables.proofs.store.Tie as tie
 
-abbrev Inv-loop : tie.InvT-loop
-Inv-loop t₀ at words n i₀ t i = Storing t₀ at words t i × (length t ≡ length t₀)
-
-abbrev μ-loop : tie.MeasureT-loop
-μ-loop t₀ at words n i₀ t i = n - i
-
-returns : tie.Need-returns Inv-loop μ-loop
+returns : tie.Need-returns
 returns c =
-    let a = c .before .args in
+    let a = c .before .before .before .args in
     (sym (lt-leb (a .at + length (a .words .now)) (length (a .t .now)) (omega arith)), sym (stored-not (a .t .now) (a .at) (a .words .now) (omega arith)))
 
-sub-if2 : tie.Need-sub-if2 Inv-loop μ-loop
+sub-if2 : tie.Need-sub-if2
 sub-if2 c = search needs
 
-returns-2 : tie.Need-returns-2 Inv-loop μ-loop
+returns-2 : tie.Need-returns-2
 returns-2 c =
-    let a = c .before .before .args in
+    let a = c .before .before .before .before .args in
     (sym (lt-leb (a .at + length (a .words .now)) (length (a .t .now)) (omega arith)), sym (stored-not (a .t .now) (a .at) (a .words .now) (omega arith)))
 
-loop-holds : tie.Need-loop-holds Inv-loop μ-loop
-loop-holds c =
-    let o = c .before .before in
-    (store-none (o .args .t .now) (o .args .at) (o .args .words .now), refl)
+put-requires : tie.Need-put-requires
+put-requires c κs = search needs
 
-mul-t : tie.Need-mul-t Inv-loop μ-loop
-mul-t c = search needs
+same-length : tie.Need-same-length
+same-length c = search needs
 
-shared-slice-read-t : tie.Need-shared-slice-read-t Inv-loop μ-loop
-shared-slice-read-t c = search needs
-
-add-t : tie.Need-add-t Inv-loop μ-loop
-add-t c = search needs
-
-mul-t-2 : tie.Need-mul-t-2 Inv-loop μ-loop
-mul-t-2 c = search needs
-
-slice-write-t : tie.Need-slice-write-t Inv-loop μ-loop
-slice-write-t c = omega arith
-
-add-i : tie.Need-add-i Inv-loop μ-loop
-add-i c = search needs
-
-loop-less : tie.Need-loop-less Inv-loop μ-loop
-loop-less c = search needs
-
-loop-again : tie.Need-loop-again Inv-loop μ-loop
-loop-again c =
-    let l = c .before .before in
-    let o = l .before .before .before in (
-      store-more (o .args .t .now) (o .args .at) (o .args .words .now) (omega arith) (l .loop .t) (l .loop .i) (search needs) (l .loop .inv .0),
-      length-set (l .loop .t) (o .args .at + l .loop .i) _ ∙ l .loop .inv .1,
-    )
-
-same-length : tie.Need-same-length Inv-loop μ-loop
-same-length c = c .before .loop .inv .1
-
-returns-3 : tie.Need-returns-3 Inv-loop μ-loop
+returns-3 : tie.Need-returns-3
 returns-3 c =
-    let o = c .before .before .before .before in
-    let h : o .args .at + length (o .args .words .now) ≤ length (o .args .t .now) = omega arith in (
-      sym (le-leb (o .args .at + length (o .args .words .now)) (length (o .args .t .now)) h),
-      store-all (o .args .t .now) (o .args .at) (o .args .words .now) h (c .before .loop .t) (c .before .loop .i) (search needs) (c .before .loop .inv .0),
-    )
+    let k = c .before .before .put in
+    let a = c .before .before .before .before .before .before .before .before .args in
+    let h : a .at + length (a .words .now) ≤ length (a .t .now) = omega arith in
+    (sym (le-leb (a .at + length (a .words .now)) (length (a .t .now)) h), k .ensures ∙ sym (stored-fits (a .t .now) (a .at) (a .words .now) h))
 
 pub store-spec : {M : Type 1} → statement M
-store-spec =
-    tie.close
-    (tie.spec
-    Inv-loop
-    μ-loop
-    returns
-    sub-if2
-    returns-2
-    loop-holds
-    mul-t
-    shared-slice-read-t
-    add-t
-    mul-t-2
-    slice-write-t
-    add-i
-    loop-less
-    loop-again
-    same-length
-    returns-3)
+store-spec = tie.close (tie.spec returns sub-if2 returns-2 put-requires same-length returns-3)

@@ -1,27 +1,31 @@
 -- `token::comment_end` meets its contract. Assumes nothing.
 use Prim.Native.Nat.{_-_}
-use mathlib.Core.Path.{_≡_, refl, sym, _∙_}
+use mathlib.Core.Path.{sym, _∙_}
 use native.Mathlib.Omega.{arith}
-use lib.ListN.{length, drop}
-use Rattle.token.specs.Comments.{comment-end}
-use Rattle.token.proofs.Comments.{comment-stop, comment-more, comment-over}
+use lib.ListN.{length}
+use Rattle.token.specs.Comments.{SameComment}
+use Rattle.token.proofs.Comments.{comment-stop, comment-over}
+use Rattle.token.proofs.CommentBlocks.{same-byte}
 use Rattle.token.proofs.comment_end.Statement.{statement}
 use Rattle.token.proofs.comment_end.Tie as tie
 
 abbrev Inv-loop : tie.InvT-loop
-Inv-loop s at pos₀ pos = comment-end at (drop at s) ≡ comment-end pos (drop pos s)
+Inv-loop s at pos₀ pos = SameComment s at pos
 
 abbrev μ-loop : tie.MeasureT-loop
 μ-loop s at pos₀ pos = length s - pos
 
+comment-blocks-requires : tie.Need-comment-blocks-requires Inv-loop μ-loop
+comment-blocks-requires c κs = c .before .pre
+
 loop-holds : tie.Need-loop-holds Inv-loop μ-loop
-loop-holds c = refl
+loop-holds c = c .comment-blocks .ensures
 
 shared-slice-read-if1 : tie.Need-shared-slice-read-if1 Inv-loop μ-loop
 shared-slice-read-if1 c = omega arith
 
 returns : tie.Need-returns Inv-loop μ-loop
-returns c = sym (c .before .before .before .loop .inv ∙ comment-stop _ _ (c .before .before .loop-test .taken) (c .if1 .taken))
+returns c = sym (c .before .before .before .loop .inv .same ∙ comment-stop _ _ (c .before .before .loop-test .taken) (c .if1 .taken))
 
 add-pos : tie.Need-add-pos Inv-loop μ-loop
 add-pos c = omega arith
@@ -30,10 +34,10 @@ loop-less : tie.Need-loop-less Inv-loop μ-loop
 loop-less c = omega arith
 
 loop-again : tie.Need-loop-again Inv-loop μ-loop
-loop-again c = c .before .before .before .loop .inv ∙ comment-more _ _ (c .before .before .loop-test .taken) (c .if1 .left)
+loop-again c = same-byte _ _ _ (c .before .before .before .loop .inv) (c .before .before .loop-test .taken) (c .if1 .left)
 
 returns-2 : tie.Need-returns-2 Inv-loop μ-loop
-returns-2 c = sym (c .before .loop .inv ∙ comment-over _ _ (c .loop-test .left))
+returns-2 c = sym (c .before .loop .inv .same ∙ comment-over _ _ (c .loop-test .left))
 
 pub comment-end-spec : {M : Type 1} → statement M
 comment-end-spec =
@@ -41,6 +45,7 @@ comment-end-spec =
     (tie.spec
     Inv-loop
     μ-loop
+    comment-blocks-requires
     loop-holds
     shared-slice-read-if1
     returns

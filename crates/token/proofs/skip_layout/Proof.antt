@@ -55,7 +55,7 @@ add-comment-end : tie.Need-add-comment-end Inv-loop μ-loop
 add-comment-end c = omega arith
 
 comment-end-requires : tie.Need-comment-end-requires Inv-loop μ-loop
-comment-end-requires c κs = search needs
+comment-end-requires c κs = omega arith
 
 loop-less-2 : tie.Need-loop-less-2 Inv-loop μ-loop
 loop-less-2 c = let low = comment-from _ _ _ (c .comment-end .ensures) in omega arith

@@ -1,2 +1,0 @@
-mod Three
-pub mod Telling

@@ -1,0 +1,39 @@
+-- `sulyterom::reports::report_token` meets its contract. Assumes nothing.
+use mathlib.Core.Path.{sym, ap, _∙_}
+use mathlib.Core.List.{[], _∷_}
+use Prim.Native.Nat.{ℕ}
+use Rattle.sulyterom.specs.Numbers.{numbers, report-token}
+use borrow.Author.Needs.{needs}
+use Rattle.sulyterom.proofs.reports.report_token.Statement.{statement}
+use Rattle.sulyterom.proofs.reports.report_token.Tie as tie
+
+enum-known-lexed : tie.Need-enum-known-lexed
+enum-known-lexed c = search needs
+
+kind-number-requires : tie.Need-kind-number-requires
+kind-number-requires c κs = search needs
+
+enum-known-lexed-2 : tie.Need-enum-known-lexed-2
+enum-known-lexed-2 c = search needs
+
+report-refusal-requires : tie.Need-report-refusal-requires
+report-refusal-requires c κs = search needs
+
+returns : tie.Need-returns
+returns c =
+    let t = c .before .before .lexed .given .0 .0 in
+    ap (λ (k : ℕ). numbers (record { number = 0; values = k ∷ t .start ∷ t .end ∷ [] })) (c .kind-number .ensures) ∙ ap (λ x. numbers (report-token x)) (sym (c .before .before .lexed .given .1))
+
+returns-2 : tie.Need-returns-2
+returns-2 c = c .report-refusal .ensures ∙ ap (λ x. numbers (report-token x)) (sym (c .before .before .lexed2 .given .1))
+
+pub report-token-spec : {M : Type 1} → statement M
+report-token-spec =
+    tie.close
+    (tie.spec
+    enum-known-lexed
+    kind-number-requires
+    enum-known-lexed-2
+    report-refusal-requires
+    returns
+    returns-2)

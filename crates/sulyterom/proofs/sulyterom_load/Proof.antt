@@ -1,0 +1,58 @@
+-- `sulyterom::sulyterom_load` meets its contract. Assumes nothing.
+use mathlib.Core.Path.{_≡_, sym, ap, _∙_}
+use Rattle.surface.specs.declared.Answer.{Answer}
+use Rattle.surface.specs.Loading.{Outcome, report}
+use Rattle.loader.specs.Leaving.{leaving}
+use Rattle.sulyterom.specs.Numbers.{numbers}
+use Rattle.sulyterom.proofs.Telling.{tells}
+use borrow.Author.Needs.{needs}
+use Rattle.sulyterom.proofs.sulyterom_load.Statement.{statement}
+use Rattle.sulyterom.proofs.sulyterom_load.Tie as tie
+
+load-requires : tie.Need-load-requires
+load-requires c κs = search needs
+
+report-loaded-requires : tie.Need-report-loaded-requires
+report-loaded-requires c κs = search needs
+
+tell-requires : tie.Need-tell-requires
+tell-requires c κs = search needs
+
+same-length : tie.Need-same-length
+same-length c = search needs
+
+same-length-2 : tie.Need-same-length-2
+same-length-2 c = search needs
+
+same-length-3 : tie.Need-same-length-3
+same-length-3 c = search needs
+
+same-length-4 : tie.Need-same-length-4
+same-length-4 c = search needs
+
+same-length-5 : tie.Need-same-length-5
+same-length-5 c = search needs
+
+returns : tie.Need-returns
+returns c =
+    let o = c .before .before .before .before .before .before .before .before .before .before .before .before .before .before .before .before .before .before .before .before .before .before .before .before .args in
+    let k = c .before .before .before .before .before .before .before .before .before .before .before .before .before .load in
+    let a : k .result ≡ _ = ap (λ (x : Outcome). x .answer) (k .ensures) in
+    record {
+      tells = tells 3 _ _ (o .answer .now) _ _ (c .before .before .before .before .report-loaded .ensures ∙ ap (λ (x : Answer). numbers (report x)) a) (c .before .before .tell .ensures);
+      left = ap (λ (x : Answer). leaving x (k .last .1 .0) (k .last .1 .1 .0) (k .last .1 .1 .1 .0) (k .last .1 .1 .1 .1 .0)) (sym a) ∙ k .ensures;
+    }
+
+pub sulyterom-load-spec : {M : Type 1} → statement M
+sulyterom-load-spec =
+    tie.close
+    (tie.spec
+    load-requires
+    report-loaded-requires
+    tell-requires
+    same-length
+    same-length-2
+    same-length-3
+    same-length-4
+    same-length-5
+    returns)

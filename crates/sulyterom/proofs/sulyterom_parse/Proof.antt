@@ -1,0 +1,53 @@
+-- `sulyterom::sulyterom_parse` meets its contract. Assumes nothing.
+use mathlib.Core.Path.{_≡_, sym, ap, _∙_}
+use Rattle.reader.specs.declared.ModuleRead.{ModuleRead}
+use Rattle.loader.specs.Parsed.{Parsed, parsing-leaves}
+use Rattle.sulyterom.specs.Numbers.{numbers, report-read}
+use Rattle.sulyterom.proofs.Telling.{tells}
+use borrow.Author.Needs.{needs}
+use Rattle.sulyterom.proofs.sulyterom_parse.Statement.{statement}
+use Rattle.sulyterom.proofs.sulyterom_parse.Tie as tie
+
+parse-surface-requires : tie.Need-parse-surface-requires
+parse-surface-requires c κs = search needs
+
+report-read-requires : tie.Need-report-read-requires
+report-read-requires c κs = search needs
+
+tell-requires : tie.Need-tell-requires
+tell-requires c κs = search needs
+
+same-length : tie.Need-same-length
+same-length c = search needs
+
+same-length-2 : tie.Need-same-length-2
+same-length-2 c = search needs
+
+same-length-3 : tie.Need-same-length-3
+same-length-3 c = search needs
+
+same-length-4 : tie.Need-same-length-4
+same-length-4 c = search needs
+
+returns : tie.Need-returns
+returns c =
+    let o = c .before .before .before .before .before .before .before .before .before .before .before .before .before .before .before .before .before .before .before .before .args in
+    let k = c .before .before .before .before .before .before .before .before .before .before .before .parse-surface in
+    let a : k .result ≡ _ = ap (λ (x : Parsed). x .answer) (k .ensures) in
+    record {
+      tells = tells 3 _ _ (o .answer .now) _ _ (c .before .before .before .before .report-read .ensures ∙ ap (λ (x : ModuleRead). numbers (report-read x)) a) (c .before .before .tell .ensures);
+      left = ap (λ (x : ModuleRead). parsing-leaves x (k .last .1 .0) (k .last .1 .1 .0) (k .last .1 .1 .1 .0)) (sym a) ∙ k .ensures;
+    }
+
+pub sulyterom-parse-spec : {M : Type 1} → statement M
+sulyterom-parse-spec =
+    tie.close
+    (tie.spec
+    parse-surface-requires
+    report-read-requires
+    tell-requires
+    same-length
+    same-length-2
+    same-length-3
+    same-length-4
+    returns)

@@ -1,0 +1,63 @@
+-- `sulyterom::texts::sulyterom_list` meets its contract. Assumes nothing.
+use mathlib.Core.Path.{_≡_, sym, ap, _∙_}
+use Rattle.surface.specs.declared.Answer.{Answer}
+use Rattle.surface.specs.Loading.{Outcome}
+use Rattle.loader.specs.Leaving.{leaving}
+use Rattle.sulyterom.specs.Numbers.{numbers, report-listed}
+use Rattle.sulyterom.proofs.Telling.{tells}
+use borrow.Author.Needs.{needs}
+use Rattle.sulyterom.proofs.texts.sulyterom_list.Statement.{statement}
+use Rattle.sulyterom.proofs.texts.sulyterom_list.Tie as tie
+
+list-requires : tie.Need-list-requires
+list-requires c κs = search needs
+
+report-listed-requires : tie.Need-report-listed-requires
+report-listed-requires c κs = search needs
+
+tell-all-requires : tie.Need-tell-all-requires
+tell-all-requires c κs = search needs
+
+same-length : tie.Need-same-length
+same-length c = search needs
+
+same-length-2 : tie.Need-same-length-2
+same-length-2 c = search needs
+
+same-length-3 : tie.Need-same-length-3
+same-length-3 c = search needs
+
+same-length-4 : tie.Need-same-length-4
+same-length-4 c = search needs
+
+same-length-5 : tie.Need-same-length-5
+same-length-5 c = search needs
+
+same-length-6 : tie.Need-same-length-6
+same-length-6 c = search needs
+
+returns : tie.Need-returns
+returns c =
+    let o = c .before .before .before .before .before .before .before .before .before .before .before .before .before .before .before .before .before .before .before .before .before .before .before .before .before .before .before .before .args in
+    let k = c .before .before .before .before .before .before .before .before .before .before .before .before .before .before .before .list in
+    let a : k .result .answer ≡ _ = ap (λ (x : Outcome). x .answer) (k .ensures .loads) in
+    record {
+      tells = tells 4 _ _ (o .answer .now) _ _ (c .before .before .before .before .report-listed .ensures ∙ λ i. numbers (report-listed (a i) (k .ensures .told i))) (c .before .before .tell-all .ensures);
+      content = k .ensures .content;
+      left = ap (λ (x : Answer). leaving x (k .last .1 .0) (k .last .1 .1 .0) (k .last .1 .1 .1 .0) (k .last .1 .1 .1 .1 .0)) (sym a) ∙ k .ensures .loads;
+    }
+
+pub sulyterom-list-spec : {M : Type 1} → statement M
+sulyterom-list-spec =
+    tie.close
+    (tie.spec
+    list-requires
+    report-listed-requires
+    tell-all-requires
+    same-length
+    same-length-2
+    same-length-3
+    same-length-4
+    same-length-5
+    same-length-6
+    returns)

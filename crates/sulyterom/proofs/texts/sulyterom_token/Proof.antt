@@ -1,0 +1,29 @@
+-- `sulyterom::texts::sulyterom_token` meets its contract. Assumes nothing.
+use mathlib.Core.Path.{ap, _∙_}
+use Rattle.lexer.specs.declared.Stepped.{Stepped}
+use Rattle.sulyterom.specs.Numbers.{numbers, report-token}
+use Rattle.sulyterom.proofs.Telling.{tells}
+use borrow.Author.Needs.{needs}
+use Rattle.sulyterom.proofs.texts.sulyterom_token.Statement.{statement}
+use Rattle.sulyterom.proofs.texts.sulyterom_token.Tie as tie
+
+lex-requires : tie.Need-lex-requires
+lex-requires c κs = search needs
+
+report-token-requires : tie.Need-report-token-requires
+report-token-requires c κs = search needs
+
+tell-all-requires : tie.Need-tell-all-requires
+tell-all-requires c κs = search needs
+
+same-length : tie.Need-same-length
+same-length c = search needs
+
+returns : tie.Need-returns
+returns c =
+    let o = c .before .before .before .before .before .before .before .before .args in
+    tells 4 _ _ (o .answer .now) _ _ (c .before .before .before .before .report-token .ensures ∙ ap (λ (x : Stepped). numbers (report-token (x .lexed))) (c .before .before .before .before .before .lex .ensures)) (c .before .before .tell-all .ensures)
+
+pub sulyterom-token-spec : {M : Type 1} → statement M
+sulyterom-token-spec =
+    tie.close (tie.spec lex-requires report-token-requires tell-all-requires same-length returns)

@@ -1,0 +1,49 @@
+-- The answers as plain numbers, for C and Rust: "a definition provides this paper's number and values for each of the enum's cases". Assumes nothing.
+use mathlib.Core.Path.{_≡_}
+use mathlib.Core.Bool.{cond}
+use mathlib.Core.List.{List, [], _∷_, _++_}
+use Prim.Native.Nat.{ℕ}
+use lib.Dec.{leb}
+use lib.ListN.{length, getD, take, drop}
+use Rattle.token.specs.declared.TokenKind.{TokenKind}
+use Rattle.token.specs.declared.Lexed.{Lexed}
+use Rattle.surface.specs.declared.Answer.{Answer}
+use Rattle.surface.specs.Loading.{Report, report-refusal, report}
+use Rattle.reader.specs.declared.ModuleRead.{ModuleRead}
+use Rattle.sulyterom.specs.declared.Numbers.{Numbers}
+
+-- Of reading alone: 0 and the counts of rows and declarations, or the refusal.
+abbrev pub report-read : ModuleRead → Report
+report-read (ModuleRead.Done rows declarations) = record { number = 0; values = rows ∷ declarations ∷ [] }
+report-read (ModuleRead.Refused r) = report-refusal r
+
+-- Of a listing: what loading reports, and then the length of the text.
+abbrev pub report-listed : Answer → ℕ → Report
+report-listed a length = record { number = report a .number; values = report a .values ++ (length ∷ []) }
+
+abbrev pub kind-number : TokenKind → ℕ
+kind-number TokenKind.LParen = 1
+kind-number TokenKind.RParen = 2
+kind-number TokenKind.Atom = 3
+kind-number TokenKind.Eof = 4
+
+-- Of a token: 0, its kind, where it starts and where it ends; or the refusal.
+abbrev pub report-token : Lexed → Report
+report-token (Lexed.Got t) = record { number = 0; values = kind-number (t .kind) ∷ t .start ∷ t .end ∷ [] }
+report-token (Lexed.Refused r) = report-refusal r
+
+-- A report by value: how many values follow, and these; then 0.
+abbrev pub numbers : Report → Numbers
+numbers r = record { number = r .number; count = length (r .values); first = getD (r .values) 0 0; second = getD (r .values) 1 0; third = getD (r .values) 2 0 }
+
+abbrev pub words : Numbers → List ℕ
+words x = x .count ∷ x .first ∷ x .second ∷ x .third ∷ []
+
+-- A lent table with the first n of some words at its beginning, where there is room for them.
+abbrev pub told : ℕ → List ℕ → List ℕ → List ℕ
+told n t l = cond (leb n (length t)) (take n l ++ drop n t) t
+
+-- What a call tells of an answer: its number is the result, and n words of its report stand in the lent table.
+pub record Tells (n : ℕ) (r : Report) (answer : List ℕ) (number : ℕ) (answer₁ : List ℕ) : Type 0 where
+  pub number-told : number ≡ r .number
+  pub words-told : answer₁ ≡ told n answer (words (numbers r))

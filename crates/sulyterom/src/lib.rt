@@ -1,0 +1,54 @@
+// The library for programs to link: `rt staticlib sulyterom`, with include/sulyterom.h for C. Slices pass as a pointer and a length. Each
+// function answers 0, or the class of a refusal, and sets in `answer`, if it has room for them, how many values follow, and these.
+pub mod questions;
+pub mod reports;
+pub mod texts;
+
+use crate::reports::report_loaded;
+use crate::reports::report_read;
+use crate::reports::tell;
+ghost use mathlib.Core.List.{[]};
+ghost use Rattle.loader.specs.Leaving.{lengths-of};
+ghost use Rattle.sulyterom.specs.Promises.{LoadTold, ParseTold};
+
+// An answer as plain numbers: what a call answers; then how many values follow, and these, and 0 behind them.
+pub struct Numbers {
+    pub number: u8,
+    pub count: u64,
+    pub first: u64,
+    pub second: u64,
+    pub third: u64,
+}
+
+// Loads a source. The values are the counts of rows and declarations, or the offset of a refusal that has one. `answer` takes three numbers.
+#[no_mangle]
+pub extern "C" fn sulyterom_load(
+    source: &[u8],
+    surface: &mut [u32],
+    core: &mut [u32],
+    declarations: &mut [u32],
+    work: &mut [u32],
+    answer: &mut [u64],
+) -> u8
+    ensures { λ r. ⌜ LoadTold (now (source .entry)) (lengths-of (now (surface .entry)) (now (core .entry)) (now (declarations .entry)) (now (work .entry))) (now (answer .entry)) r (now (surface .exit)) (now (core .exit)) (now (declarations .exit)) (now (work .exit)) (now (answer .exit)) ⌝ }
+{
+    let loaded = loader::load(source, surface, core, declarations, work);
+    let numbers = report_loaded(loaded);
+    tell(answer, numbers)
+}
+
+// Reads a source, with no name looked at. The values are as for loading.
+#[no_mangle]
+pub extern "C" fn sulyterom_parse(
+    source: &[u8],
+    surface: &mut [u32],
+    declarations: &mut [u32],
+    work: &mut [u32],
+    answer: &mut [u64],
+) -> u8
+    ensures { λ r. ⌜ ParseTold (now (source .entry)) (lengths-of (now (surface .entry)) [] (now (declarations .entry)) (now (work .entry))) (now (answer .entry)) r (now (surface .exit)) (now (declarations .exit)) (now (work .exit)) (now (answer .exit)) ⌝ }
+{
+    let read = loader::parse_surface(source, surface, declarations, work);
+    let numbers = report_read(read);
+    tell(answer, numbers)
+}

@@ -1,0 +1,58 @@
+// The dependence question and the same-core question.
+use crate::reports::report_comparison;
+use crate::reports::report_dependence;
+use crate::reports::tell;
+ghost use Rattle.loader.specs.Leaving.{lengths-of};
+ghost use Rattle.same.specs.Comparison.{tables};
+ghost use Rattle.sulyterom.specs.Promises.{DependsTold, SameTold};
+
+// Whether declaration i depends on j. Answers 0 for yes and no; a yes has one value, the row, and a no has none. `answer` takes three numbers.
+#[no_mangle]
+pub extern "C" fn sulyterom_depends(
+    source: &[u8],
+    i: usize,
+    j: usize,
+    surface: &mut [u32],
+    core: &mut [u32],
+    declarations: &mut [u32],
+    work: &mut [u32],
+    answer: &mut [u64],
+) -> u8
+    ensures { λ r. ⌜ DependsTold (now (source .entry)) i j (lengths-of (now (surface .entry)) (now (core .entry)) (now (declarations .entry)) (now (work .entry))) (now (answer .entry)) r (now (surface .exit)) (now (core .exit)) (now (declarations .exit)) (now (work .exit)) (now (answer .exit)) ⌝ }
+{
+    let asked = depends::depends(source, i, j, surface, core, declarations, work);
+    let numbers = report_dependence(asked);
+    tell(answer, numbers)
+}
+
+// Whether two sources leave the same core. Answers 0 for yes and no; a yes has no value, a no the place of the first declaration at which the
+// two part, a refusal 1 or 2 for the source that is refused, and its offset if it has one.
+#[no_mangle]
+pub extern "C" fn sulyterom_same(
+    first: &[u8],
+    second: &[u8],
+    surface1: &mut [u32],
+    core1: &mut [u32],
+    declarations1: &mut [u32],
+    surface2: &mut [u32],
+    core2: &mut [u32],
+    declarations2: &mut [u32],
+    work: &mut [u32],
+    answer: &mut [u64],
+) -> u8
+    ensures { λ r. ⌜ SameTold (now (first .entry)) (now (second .entry)) (lengths-of (now (surface1 .entry)) (now (core1 .entry)) (now (declarations1 .entry)) (now (work .entry))) (lengths-of (now (surface2 .entry)) (now (core2 .entry)) (now (declarations2 .entry)) (now (work .entry))) (now (answer .entry)) r (tables (now (surface1 .exit)) (now (core1 .exit)) (now (declarations1 .exit)) (now (work .exit))) (tables (now (surface2 .exit)) (now (core2 .exit)) (now (declarations2 .exit)) (now (work .exit))) (now (answer .exit)) ⌝ }
+{
+    let comparison = same::same(
+        first,
+        second,
+        surface1,
+        core1,
+        declarations1,
+        surface2,
+        core2,
+        declarations2,
+        work,
+    );
+    let numbers = report_comparison(comparison);
+    tell(answer, numbers)
+}

@@ -1,0 +1,65 @@
+//! Instructions, counted by valgrind's callgrind: one run for all cases, which writes down each turn by itself.
+use crate::case::Case;
+use crate::work::{Who, Work, whos};
+use std::process::Command;
+
+/// What the run is told to do besides the words that choose the cases.
+pub const WORD: &str = "--count";
+
+/// The library's memset and memcpy use string instructions for long blocks, of which valgrind counts one a byte.
+const PLAIN: &str = "glibc.cpu.x86_rep_stosb_threshold=1000000000:glibc.cpu.x86_rep_movsb_threshold=1000000000";
+
+/// Turns that are counted, of which the one in the middle counts. Ours are alike; the Rust's keys for names are random,
+/// and its memory is now and then put in order.
+fn turns_of(who: Who) -> usize {
+    if who == Who::Rust { 5 } else { 1 }
+}
+
+/// A turn that callgrind knows by its name.
+#[unsafe(no_mangle)]
+#[inline(never)]
+pub fn counted_turn(work: &mut Work, who: Who) {
+    work.turn(who);
+}
+
+/// The run that is counted: turns of each case, behind one that is not counted.
+pub fn turns(cases: &[Case]) {
+    for case in cases {
+        let mut work = Work::new(case);
+        for who in whos(case.task) {
+            work.turn(*who);
+            (0..turns_of(*who)).for_each(|_| counted_turn(&mut work, *who));
+        }
+    }
+}
+
+/// The instructions of each case by each who has the task, in order; none without valgrind.
+pub fn counts(words: &[String], cases: &[Case]) -> Option<Vec<Vec<u64>>> {
+    let mut totals = totals(words)?.into_iter();
+    let mut middle = |who: &Who| {
+        let mut turns: Vec<u64> = totals.by_ref().take(turns_of(*who)).collect();
+        turns.sort_unstable();
+        turns[turns.len() / 2]
+    };
+    let counts = cases.iter().map(|case| whos(case.task).iter().map(&mut middle).collect()).collect();
+    assert_eq!(totals.count(), 0, "turns of no case");
+    Some(counts)
+}
+
+/// The instructions of every turn.
+fn totals(words: &[String]) -> Option<Vec<u64>> {
+    let profile = format!("target/reference/measure.{}.profile", std::process::id());
+    let mut valgrind = Command::new("valgrind");
+    valgrind.args(["--tool=callgrind", "--combine-dumps=yes", &format!("--callgrind-out-file={profile}")]);
+    valgrind.args(["--zero-before=counted_turn", "--dump-after=counted_turn"]).env("GLIBC_TUNABLES", PLAIN);
+    let run = valgrind.arg(std::env::current_exe().ok()?).args(words).arg(WORD).output().ok()?;
+    let said = std::fs::read_to_string(&profile).unwrap_or_default();
+    let _ = std::fs::remove_file(&profile);
+    assert!(run.status.success(), "{}", String::from_utf8_lossy(&run.stderr));
+    Some(said.split("desc: Trigger: --dump-after").skip(1).filter_map(total).collect())
+}
+
+/// The instructions of one part of a profile.
+fn total(part: &str) -> Option<u64> {
+    part.lines().find_map(|line| line.strip_prefix("totals: ")?.trim().parse().ok())
+}
