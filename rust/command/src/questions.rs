@@ -91,11 +91,9 @@ pub fn references(file: &OsStr) -> Result<Answer, NotAsked> {
         Err(refusal) => return Ok(refused(&source, refusal, Storage::Large)),
     };
     let mut text = String::new();
-    let mut place = Counter::default();
     for reference in loaded.references() {
         let name = reference.name;
-        let (line, column) = place.at(&source.bytes, name.start);
-        let _ = write!(text, "{line}:{column} {name} ");
+        let _ = write!(text, "{} {name} ", source.position(name.start));
         let _ = match reference.target {
             Target::Var { count } => writeln!(text, "var {count}"),
             Target::Global { place } => {
@@ -174,26 +172,5 @@ fn no_text(source: &[u8]) -> Option<Refusal> {
     match std::str::from_utf8(source) {
         Err(error) => Some(malformed(error.valid_up_to())),
         Ok(text) => text.starts_with('\u{feff}').then(|| malformed(0)),
-    }
-}
-
-/// Lines and columns of offsets that do not fall, counted on from the last one.
-#[derive(Default)]
-struct Counter {
-    offset: usize,
-    lines: usize,
-    start: usize,
-}
-
-impl Counter {
-    fn at(&mut self, source: &[u8], offset: usize) -> (usize, usize) {
-        for (at, byte) in source.iter().enumerate().take(offset).skip(self.offset) {
-            if *byte == b'\n' {
-                self.lines += 1;
-                self.start = at + 1;
-            }
-        }
-        self.offset = offset;
-        (self.lines + 1, offset - self.start + 1)
     }
 }
