@@ -1,1 +1,5 @@
 mod Text
+pub mod Example
+mod Atoms
+mod Shown
+pub mod Fits

@@ -1,8 +1,9 @@
--- `listing::main` is safe: what is written is within the text's buffer. Assumes nothing.
+-- `listing::main` is safe: what is written is within the text's buffer, since every text fits it. Assumes nothing.
 use mathlib.Core.Path.{sym}
 use native.Mathlib.Omega.{arith}
 use lib.Seq.{length-take-le}
 use borrow.Author.Needs.{needs}
+use Rattle.listing.proofs.Fits.{within-buffer}
 use Rattle.listing.proofs.main.Statement.{statement}
 use Rattle.listing.proofs.main.Tie as tie
 
@@ -28,21 +29,18 @@ list-requires : tie.Need-list-requires
 list-requires c κs = search needs
 
 array-share-prefix-text : tie.Need-array-share-prefix-text
-array-share-prefix-text c = search needs
+array-share-prefix-text c = let k = c .before .list in omega (arith, k .kept .1 .0, within-buffer _ _ _ _ (k .ensures))
 
 slice-aggregate-write-all : tie.Need-slice-aggregate-write-all
 slice-aggregate-write-all c =
-    let k = c .before .before .before .list in
-    sym (length-take-le (k .result) (k .last .1 .0) (omega (arith, k .kept .1 .0)))
+    let k = c .before .before .list in
+    sym (length-take-le (k .result) (k .last .1 .0) (omega (arith, k .kept .1 .0, within-buffer _ _ _ _ (k .ensures))))
 
 write-all-requires : tie.Need-write-all-requires
 write-all-requires c κs = search needs
 
 returns : tie.Need-returns
 returns c = search needs
-
-returns-2 : tie.Need-returns-2
-returns-2 c = search needs
 
 pub main-spec : {M : Type 1} → statement M
 main-spec =
@@ -58,5 +56,4 @@ main-spec =
     array-share-prefix-text
     slice-aggregate-write-all
     write-all-requires
-    returns
-    returns-2)
+    returns)
