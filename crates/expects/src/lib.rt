@@ -242,7 +242,9 @@ pub fn declaration_kind(w: &[u8]) -> u32
     k - 2
 }
 
-// The arities of the words from `universe` on: octal digits, the last one for `universe`. An array would be copied where it is read.
+// The shapes and arities of the words from `universe` on: octal digits, the last one for `universe`. An array would be copied where it is read.
+const SHAPES: u64 = 0o555_115_115_155_555_545_443;
+
 const ARITIES: u64 = 0o241_003_002_061_311_222_120;
 
 // The kind of the form of word k: `ref` is word 6, and the words behind it stand in the order of their kinds.
@@ -259,36 +261,18 @@ fn kind_at(k: u32) -> u32
     k - 4
 }
 
-// One arm for each word becomes a table that is read in place.
 fn shape_at(k: u32) -> u8
     requires { ⌜ k < 28 ⌝ }
     ensures { λ r. ⌜ r ≡ form-at k .shape ⌝ }
 {
-    match k {
-        6 => 2, // ref
-        7 => 3, // universe
-        8 => 4, // pi
-        9 => 4, // lam
-        10 => 5, // app
-        11 => 4, // sigma
-        12 => 5, // pair
-        13 => 5, // fst
-        14 => 5, // snd
-        15 => 5, // id
-        16 => 5, // refl
-        17 => 5, // j
-        18 => 1, // empty
-        19 => 5, // empty-elim
-        20 => 1, // unit
-        21 => 1, // star
-        22 => 5, // unit-elim
-        23 => 1, // nat
-        24 => 1, // zero
-        25 => 5, // succ
-        26 => 5, // nat-elim
-        27 => 5, // ann
-        _ => 0,
+    if k < 6 {
+        return 0;
     }
+    if k == 6 {
+        return 2;
+    }
+    let digit = k as u64 - 7;
+    ((SHAPES >> (3 * digit)) % 8) as u8
 }
 
 fn arity_at(k: u32) -> u32
