@@ -12,7 +12,6 @@ use Rattle.terms.proofs.Widths.{wide-records, count-records}
 use Rattle.elaborate.proofs.ResolvedTrees.{records-kept}
 use Rattle.surface.specs.declared.Answer.{Answer}
 use Rattle.surface.specs.Reader.{start, Result, done, refused}
-use Rattle.surface.specs.Tables.{tables, leaves}
 use Rattle.surface.specs.Loading.{Lengths, Outcome, outcome, parsing}
 use Rattle.reader.specs.declared.ModuleRead.{ModuleRead}
 use Rattle.loader.specs.Leaving.{leaving}
@@ -72,7 +71,7 @@ all-else s z d t (refused x) = refl
 all-else s z d t (done ds p) = refl
 
 abbrev reading-records : List ℕ → Parsed → Parsed
-reading-records t o = leaves (o .answer) (tables (o .tables .surface) (o .tables .core) t (o .tables .work))
+reading-records t o = parsing-leaves (o .answer) (o .tables .surface) t (o .tables .work)
 
 words-read : (z : Lengths) (r : Result (List Declaration)) → parsed z r .tables .declarations ≡ pad (z .declarations) (read-words r)
 words-read z (refused x) = refl

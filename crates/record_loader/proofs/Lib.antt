@@ -6,4 +6,3 @@ mod Moves
 mod Replying
 mod Room
 mod Settling
-pub mod Demand

@@ -1,3 +1,2 @@
 pub mod Recorded
 pub mod Replies
-pub mod Statements
