@@ -2,7 +2,7 @@
    row of its type and, if it has one, of its body.
 
        ./sulyterom build
-       cc -Iinclude -o load examples/load.c target/staticlib/libstation.a
+       cc -Iinclude -o load examples/load.c target/staticlib/libsulyterom.a
        ./load < examples/naturals.surface */
 #include "sulyterom.h"
 

@@ -1,9 +1,9 @@
 /* sulyterom.h: loads a hott-surface/0.1 source into a numbered core module that a kernel can check, and tells which
    declarations depend on which.
 
-   `rt staticlib station` makes target/staticlib/libstation.a for x86-64 Linux. Link it:
+   `rt staticlib sulyterom` makes target/staticlib/libsulyterom.a for x86-64 Linux. Link it:
 
-       cc -Iinclude program.c target/staticlib/libstation.a
+       cc -Iinclude program.c target/staticlib/libsulyterom.a
 
    or, where it is installed, `cc program.c $(pkg-config --cflags --libs sulyterom)`. examples/load.c is a whole program.
    In short:
@@ -21,8 +21,8 @@
            // refused, at no place
        }
 
-   The functions sulyterom_load, sulyterom_depends and sulyterom_same are the library's own, and take each table as words.
-   Behind them stand inline functions over structs, which do nothing but call these: rows and records are the same memory.
+   The functions up to sulyterom_same are the library's own, and take each table as words. Behind them stand inline
+   functions over structs, which do nothing but call these: rows and records are the same memory.
 
    What is passed. Every table, and the source, is passed as a pointer to its first element and then its length in
    elements (words of 32 bits, or bytes of the source, or numbers of 64 bits), never in bytes of memory; in the structs
@@ -32,7 +32,7 @@
    former content.
 
    What is promised. A function returns, and the answer and every word of every table are what a definition says
-   (crates/station/src/lib.rt has the promises, each proved). It allocates nothing, writes nothing but the tables
+   (crates/sulyterom/src/lib.rt has the promises, each proved). It allocates nothing, writes nothing but the tables
    lent to it, and keeps nothing between calls: tables can be lent again and again, and threads can load at the same
    time into tables of their own. A call takes less than SULYTEROM_STACK_BYTES of stack, whatever the source. */
 #ifndef SULYTEROM_H
@@ -65,6 +65,7 @@ extern "C" {
 #define SULYTEROM_RECORD_WORDS 5
 #define SULYTEROM_WORK_WORDS 16384
 #define SULYTEROM_ANSWER_WORDS 3
+#define SULYTEROM_LONG_ANSWER_WORDS 4 /* of sulyterom_list and sulyterom_token */
 #define SULYTEROM_LONGEST_SOURCE 65535 /* bytes */
 #define SULYTEROM_MOST_FRAMES 512      /* forms open at the same time in one type or body */
 #define SULYTEROM_STACK_BYTES 32768    /* that a call stays below */
@@ -158,6 +159,14 @@ typedef enum sulyterom_declaration_kind {
     SULYTEROM_OPAQUE = 3
 } sulyterom_declaration_kind;
 
+/* The kind of a token. */
+typedef enum sulyterom_token_kind {
+    SULYTEROM_LEFT_PARENTHESIS = 1,
+    SULYTEROM_RIGHT_PARENTHESIS = 2,
+    SULYTEROM_ATOM = 3,
+    SULYTEROM_END = 4 /* no bytes, at the source's length */
+} sulyterom_token_kind;
+
 /* The words of a record. The declaration at place d, from 0, begins at word d * SULYTEROM_RECORD_WORDS. */
 #define SULYTEROM_RECORD_KIND 0
 #define SULYTEROM_RECORD_NAME_START 1
@@ -182,6 +191,32 @@ typedef enum sulyterom_declaration_kind {
 uint8_t sulyterom_load(const uint8_t *source, size_t source_length, uint32_t *surface, size_t surface_length,
                        uint32_t *core, size_t core_length, uint32_t *declarations, size_t declarations_length,
                        uint32_t *work, size_t work_length, uint64_t *answer, size_t answer_length);
+
+/* Reads a source as loading does, and looks at no name: 4 and 5 are not given, and there is no core table.
+
+   Accepted: returns 0 and leaves answer, surface, declarations and work as sulyterom_load does; refused likewise. */
+uint8_t sulyterom_parse(const uint8_t *source, size_t source_length, uint32_t *surface, size_t surface_length,
+                        uint32_t *declarations, size_t declarations_length, uint32_t *work, size_t work_length,
+                        uint64_t *answer, size_t answer_length);
+
+/* Loads a source as sulyterom_load does, and writes its listing into text, or the line of its refusal; what lies behind
+   the text is left as it is. Every line ends with byte 10, and there is no byte 0 at the end.
+
+   Returns what sulyterom_load returns, and leaves in answer, which has room for SULYTEROM_LONG_ANSWER_WORDS numbers,
+   one value more than it: 3, rows, declarations, length; or 2, offset, length, 0; or 1, length, 0, 0. The length is
+   the text's, or one more than text_length if the text did not fit and was cut. */
+uint8_t sulyterom_list(const uint8_t *source, size_t source_length, uint32_t *surface, size_t surface_length,
+                       uint32_t *core, size_t core_length, uint32_t *declarations, size_t declarations_length,
+                       uint32_t *work, size_t work_length, uint8_t *text, size_t text_length, uint64_t *answer,
+                       size_t answer_length);
+
+/* The first token at or behind an offset, with layout and comments before it passed over. Whether the source is UTF-8
+   is not looked at.
+
+   A token: returns 0 and leaves in answer 3, its kind, its first byte's offset, the offset behind its last byte.
+   Refused: returns 1 and leaves 1, the offset of a byte that can be no part of a token, 0, 0. */
+uint8_t sulyterom_token(const uint8_t *source, size_t source_length, size_t at, uint64_t *answer,
+                        size_t answer_length);
 
 /* Asks whether the declaration at place i depends on the one at place j: whether a row of i's type or body is global j.
    The source is loaded first.
@@ -256,6 +291,22 @@ typedef struct sulyterom_loaded {
     size_t declarations;
 } sulyterom_loaded;
 
+/* What sulyterom_list_into answers: as sulyterom_loaded, and the text. */
+typedef struct sulyterom_listed {
+    sulyterom_loaded loaded;
+    size_t length; /* of the text, as far as it is written */
+    int is_cut;    /* whether there was no room for all of it */
+} sulyterom_listed;
+
+/* What sulyterom_token_at answers. */
+typedef struct sulyterom_token_read {
+    sulyterom_class refused;
+    size_t offset; /* of the refused byte */
+    sulyterom_token_kind kind;
+    size_t start;
+    size_t end;
+} sulyterom_token_read;
+
 /* What sulyterom_depends_in answers. */
 typedef struct sulyterom_dependence {
     sulyterom_class refused;
@@ -290,6 +341,47 @@ static inline sulyterom_loaded sulyterom_load_into(const uint8_t *source, size_t
         told.declarations = (size_t)answer[2];
     } else {
         told.has_offset = answer[0] == 1;
+        told.offset = (size_t)answer[1];
+    }
+    return told;
+}
+
+/* As sulyterom_list. */
+static inline sulyterom_listed sulyterom_list_into(const uint8_t *source, size_t source_length,
+                                                   const sulyterom_tables *tables, uint8_t *text, size_t text_length) {
+    uint64_t answer[SULYTEROM_LONG_ANSWER_WORDS] = {0, 0, 0, 0};
+    sulyterom_listed told = {{SULYTEROM_ACCEPTED, 0, 0, 0, 0}, 0, 0};
+    told.loaded.refused = (sulyterom_class)sulyterom_list(
+        source, source_length, (uint32_t *)tables->surface, tables->surface_rows * SULYTEROM_ROW_WORDS,
+        (uint32_t *)tables->core, tables->core_rows * SULYTEROM_ROW_WORDS, (uint32_t *)tables->declarations,
+        tables->declaration_records * SULYTEROM_RECORD_WORDS, tables->work, tables->work_words, text, text_length, answer,
+        SULYTEROM_LONG_ANSWER_WORDS);
+    if (told.loaded.refused == SULYTEROM_ACCEPTED) {
+        told.loaded.rows = (size_t)answer[1];
+        told.loaded.declarations = (size_t)answer[2];
+        told.length = (size_t)answer[3];
+    } else if (answer[0] == 2) {
+        told.loaded.has_offset = 1;
+        told.loaded.offset = (size_t)answer[1];
+        told.length = (size_t)answer[2];
+    } else {
+        told.length = (size_t)answer[1];
+    }
+    told.is_cut = told.length > text_length;
+    if (told.is_cut) told.length = text_length;
+    return told;
+}
+
+/* As sulyterom_token. */
+static inline sulyterom_token_read sulyterom_token_at(const uint8_t *source, size_t source_length, size_t at) {
+    uint64_t answer[SULYTEROM_LONG_ANSWER_WORDS] = {0, 0, 0, 0};
+    sulyterom_token_read told = {SULYTEROM_ACCEPTED, 0, SULYTEROM_END, 0, 0};
+    told.refused = (sulyterom_class)sulyterom_token(source, source_length, at, answer, SULYTEROM_LONG_ANSWER_WORDS);
+    if (told.refused == SULYTEROM_ACCEPTED) {
+        told.kind = (sulyterom_token_kind)answer[1];
+        told.start = (size_t)answer[2];
+        told.end = (size_t)answer[3];
+    } else {
         told.offset = (size_t)answer[1];
     }
     return told;

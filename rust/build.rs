@@ -1,4 +1,4 @@
-//! Finds libstation.a: in the folder that the variable names, else in the repository's target/staticlib.
+//! Finds libsulyterom.a: in the folder that the variable names, else in the repository's target/staticlib.
 use std::env;
 use std::path::{Path, PathBuf};
 
@@ -7,13 +7,13 @@ const FOLDER: &str = "SULYTEROM_LIBRARY_FOLDER";
 fn main() {
     println!("cargo::rerun-if-env-changed={FOLDER}");
     let folder = env::var_os(FOLDER).map_or_else(in_repository, PathBuf::from);
-    let library = folder.join("libstation.a");
+    let library = folder.join("libsulyterom.a");
     println!("cargo::rerun-if-changed={}", library.display());
     if library.is_file() {
         println!("cargo::rustc-link-search=native={}", folder.display());
     } else {
         println!("cargo::error=there is no {}", library.display());
-        println!("cargo::error=make it by `rt staticlib station` in the repository, or let {FOLDER} name its folder");
+        println!("cargo::error=make it by `rt staticlib sulyterom` in the repository, or let {FOLDER} name its folder");
     }
 }
 

@@ -1,11 +1,14 @@
-/* Lends rows and declarations as structs, by the inline functions of sulyterom.h, and compares with the calls that lend words:
-   the answer and every word must be equal, for lists of many lengths, and what lies behind the list must stay.
+/* Lends rows and declarations as structs, by the inline functions of sulyterom.h, and compares with the calls that lend
+   words: the answer and every word must be equal, for lists of many lengths, and what lies behind the list must stay.
+   Then the listing, reading alone and tokens.
    The last line is 'N passed, M failed'. */
 #include "sulyterom.h"
 
 #include <stdio.h>
 #include <stdlib.h>
 #include <string.h>
+
+#define HEAD "(surface 0 1)(module m)"
 
 typedef sulyterom_declaration record;
 
@@ -104,6 +107,61 @@ static void compares(const char *one, const char *other, size_t m, size_t n) {
     check(equal && number == told.refused && kept, "a comparison", strlen(one), m);
 }
 
+/* The listing, with all the room it needs, just so much, one byte less, and none. */
+static void lists(const char *source, const char *listing, sulyterom_class number) {
+    static uint8_t room[1000];
+    const size_t length = strlen(source), long_as = strlen(listing);
+    const size_t rooms[] = {sizeof room, long_as, long_as - 1, 0};
+    for (size_t k = 0; k < sizeof rooms / sizeof rooms[0]; k++) {
+        size_t fits = rooms[k] < long_as ? rooms[k] : long_as;
+        fill(&structs);
+        memset(room, 0xa5, sizeof room);
+        sulyterom_tables tables = lent(&structs, 3);
+        sulyterom_loaded alone = sulyterom_load_into((const uint8_t *)source, length, &tables);
+        sulyterom_listed told = sulyterom_list_into((const uint8_t *)source, length, &tables, room, rooms[k]);
+        check(told.loaded.refused == number && alone.refused == number, "a listing's class", length, rooms[k]);
+        check(told.loaded.has_offset == alone.has_offset && told.loaded.offset == alone.offset &&
+                  told.loaded.rows == alone.rows && told.loaded.declarations == alone.declarations,
+              "a listing's values", length, rooms[k]);
+        check(told.length == fits && told.is_cut == (fits < long_as), "a listing's length", length, rooms[k]);
+        check(!memcmp(room, listing, fits) && (fits == sizeof room || room[fits] == 0xa5), "a listing", length, rooms[k]);
+    }
+}
+
+/* Reading alone: names are not looked at, and the surface table is that of loading. */
+static void parses(const char *source, uint8_t number) {
+    fill(&words);
+    fill(&structs);
+    const uint8_t *s = (const uint8_t *)source;
+    sulyterom_tables tables = lent(&structs, 3);
+    sulyterom_loaded told = sulyterom_load_into(s, strlen(source), &tables);
+    uint8_t read = sulyterom_parse(s, strlen(source), &words.surface[0].kind, ROW_WORDS, &words.list[0].kind, 15,
+                                   words.work, WORK, answer, 3);
+    check(read == number, "reading alone", strlen(source), 3);
+    if (told.refused == SULYTEROM_ACCEPTED) {
+        check(answers(2, told.rows, told.declarations), "reading alone: the counts", strlen(source), 3);
+        check(!memcmp(words.surface, structs.surface, sizeof words.surface) &&
+                  !memcmp(words.list, structs.list, sizeof words.list),
+              "reading alone: the tables", strlen(source), 3);
+    }
+}
+
+static void tokens(void) {
+    static const char source[] = "(a-1 ; x\n)]";
+    const uint8_t *s = (const uint8_t *)source;
+    const size_t length = sizeof source - 1;
+    sulyterom_token_read told = sulyterom_token_at(s, length, 0);
+    check(told.refused == 0 && told.kind == SULYTEROM_LEFT_PARENTHESIS && told.start == 0 && told.end == 1, "a token", 0, 0);
+    told = sulyterom_token_at(s, length, 1);
+    check(told.refused == 0 && told.kind == SULYTEROM_ATOM && told.start == 1 && told.end == 4, "a token", 1, 0);
+    told = sulyterom_token_at(s, length, 4);
+    check(told.refused == 0 && told.kind == SULYTEROM_RIGHT_PARENTHESIS && told.start == 9 && told.end == 10, "a token", 4, 0);
+    told = sulyterom_token_at(s, length, 10);
+    check(told.refused == SULYTEROM_MALFORMED && told.offset == 10, "a token", 10, 0);
+    told = sulyterom_token_at(s, length, length);
+    check(told.refused == 0 && told.kind == SULYTEROM_END && told.start == length && told.end == length, "a token", length, 0);
+}
+
 /* Every class has words of its own, and other numbers have none. */
 static void classes(void) {
     for (int k = 0; k <= 12; k++) {
@@ -133,10 +191,17 @@ static size_t module(size_t wanted) {
     return at;
 }
 
-#define HEAD "(surface 0 1)(module m)"
-
 int main(void) {
     classes();
+    tokens();
+    lists(HEAD "(postulate x nat)(postulate y (pi x (ref x) (ref x)))",
+          "nodes 4 declarations 2\n0 nat\n1 global 0\n2 var 0\n3 pi 1 2\n0 postulate x 0\n1 postulate y 3\n",
+          SULYTEROM_ACCEPTED);
+    lists(HEAD "(postulate nat nat)", "refused 3 at 34\n", SULYTEROM_RESERVED_NAME);
+    lists(HEAD "(postulate x (ref q))", "refused 5\n", SULYTEROM_UNKNOWN_NAME);
+    parses(HEAD "(postulate x nat)(postulate y (pi x (ref x) (ref x)))", 0);
+    parses(HEAD "(postulate x (ref q))(postulate x nat)", 0);
+    parses(HEAD "(postulate nat nat)", SULYTEROM_RESERVED_NAME);
     static const char input[] = HEAD "(postulate x nat)(postulate y (pi x (ref x) (ref x)))(opaque z (ref y) (ref x))";
     static const char *const others[] = {HEAD, HEAD "(postulate a (ref q))", HEAD "(postulate a nat)(postulate a nat)", "(surface 1 0)", HEAD "(postulate nat nat)"};
     static const char bytes[] = "( )a0;]\n\xc3";

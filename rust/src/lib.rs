@@ -1,6 +1,6 @@
 //! Loads hott-surface/0.1 sources into numbered core modules that a kernel can check.
 //!
-//! The work is done by the library `libstation.a`, in which every function is proved to do what a definition says. This
+//! The work is done by the library `libsulyterom.a`, in which every function is proved to do what a definition says. This
 //! crate adds what Rust expects: a [`Result`], views of rows and declarations as enums, tables that can be owned, lent
 //! and used again. It has no dependencies, and of the standard library it uses `core` and `alloc` alone.
 //!
@@ -34,7 +34,7 @@
 //!
 //! # Building
 //!
-//! `rt staticlib station` in the repository makes `target/staticlib/libstation.a`, for x86-64 Linux, where the build
+//! `rt staticlib sulyterom` in the repository makes `target/staticlib/libsulyterom.a`, for x86-64 Linux, where the build
 //! looks for it. `SULYTEROM_LIBRARY_FOLDER` may name another folder, by an absolute path.
 #![no_std]
 
@@ -45,6 +45,7 @@ mod comparison;
 mod declaration;
 mod dependence;
 mod library;
+mod listing;
 mod loaded;
 mod loader;
 mod reference;
@@ -57,6 +58,7 @@ pub use atom::Atom;
 pub use comparison::Comparison;
 pub use declaration::{Declaration, DeclarationKind};
 pub use dependence::Dependence;
+pub use listing::Listing;
 pub use loaded::Loaded;
 pub use loader::Loader;
 pub use reference::{Reference, Target};
@@ -102,6 +104,27 @@ where
 {
     let told = library::load(source, tables.lend());
     Loaded::told(source, tables, told)
+}
+
+/// Loads a source into the tables, as [`load`] does, and gives document 01's listing of what is loaded, or the line of the
+/// refusal. The text is the library's: it is proved too.
+///
+/// ```
+/// use sulyterom::{Tables, list};
+///
+/// let listing = list(b"(surface 0 1)(module m)(postulate x (universe 0))", &mut Tables::with_sizes(1, 1));
+/// assert_eq!(listing.text, b"nodes 1 declarations 1\n0 universe 0\n0 postulate x 0\n");
+/// let listing = list(b"(surface 0 1)(module nat)", &mut Tables::with_sizes(1, 1));
+/// assert_eq!(listing.text, b"refused 3 at 21\n");
+/// assert_eq!(listing.refusal.unwrap().offset, Some(21));
+/// ```
+pub fn list<W: AsMut<[u32]>>(source: &[u8], tables: &mut Tables<W>) -> Listing {
+    Listing::with_room(room(source), |text| library::list(source, tables.lend(), text))
+}
+
+/// Bytes that the listing of most sources of a length has at most.
+fn room(source: &[u8]) -> usize {
+    source.len().min(LONGEST_SOURCE) * 4 + 64
 }
 
 /// Asks whether the declaration at place `i` depends on the one at place `j`: whether a row of `i`'s type or body is a

@@ -1,9 +1,9 @@
-//! The functions of libstation.a behind safe ones. Nothing is asked of the numbers and of what the slices hold: only that
+//! The functions of libsulyterom.a behind safe ones. Nothing is asked of the numbers and of what the slices hold: only that
 //! each pointer belongs to its length and that no two of the tables overlap, as slices of Rust do.
 use crate::Tables;
 
 // A slice passes as a pointer and then a length.
-#[link(name = "station", kind = "static")]
+#[link(name = "sulyterom", kind = "static")]
 unsafe extern "C" {
     fn sulyterom_load(
         source: *const u8,
@@ -56,6 +56,31 @@ unsafe extern "C" {
         declarations2_length: usize,
         work: *mut u32,
         work_length: usize,
+        answer: *mut u64,
+        answer_length: usize,
+    ) -> u8;
+
+    fn sulyterom_list(
+        source: *const u8,
+        source_length: usize,
+        surface: *mut u32,
+        surface_length: usize,
+        core: *mut u32,
+        core_length: usize,
+        declarations: *mut u32,
+        declarations_length: usize,
+        work: *mut u32,
+        work_length: usize,
+        text: *mut u8,
+        text_length: usize,
+        answer: *mut u64,
+        answer_length: usize,
+    ) -> u8;
+
+    fn sulyterom_token(
+        source: *const u8,
+        source_length: usize,
+        at: usize,
         answer: *mut u64,
         answer_length: usize,
     ) -> u8;
@@ -143,29 +168,36 @@ pub fn same(first: &[u8], second: &[u8], one: Tables<&mut [u32]>, other: Tables<
     (class, answer)
 }
 
-/// The token at or behind an offset: kind (0 for a refused byte), start, end.
-pub fn token(source: &[u8], at: usize) -> (u8, usize, usize) {
-    stand_in_token(source, at)
+/// The class, 0 for acceptance; how many values follow, and the values: those of loading, and then the text's length, one
+/// more than there is room for if it was cut.
+pub fn list(source: &[u8], lent: Tables<&mut [u32]>, text: &mut [u8]) -> (u8, [u64; 4]) {
+    let mut answer = [0; 4];
+    // SAFETY: as above; the text is borrowed mutably too.
+    let class = unsafe {
+        sulyterom_list(
+            source.as_ptr(),
+            source.len(),
+            lent.surface.as_mut_ptr(),
+            lent.surface.len(),
+            lent.core.as_mut_ptr(),
+            lent.core.len(),
+            lent.declarations.as_mut_ptr(),
+            lent.declarations.len(),
+            lent.work.as_mut_ptr(),
+            lent.work.len(),
+            text.as_mut_ptr(),
+            text.len(),
+            answer.as_mut_ptr(),
+            answer.len(),
+        )
+    };
+    (class, answer)
 }
 
-// until the library exports its own
-fn stand_in_token(source: &[u8], mut at: usize) -> (u8, usize, usize) {
-    let layout = |byte: u8| matches!(byte, 9 | 10 | 13 | 32);
-    let atom = |byte: u8| byte.is_ascii_alphanumeric() || byte == b'_' || byte == b'-';
-    loop {
-        match source.get(at) {
-            None => return (4, source.len(), source.len()),
-            Some(byte) if layout(*byte) => at += 1,
-            Some(b';') => at += source[at..].iter().position(|byte| *byte == 10).unwrap_or(source.len() - at),
-            Some(b'(') => return (1, at, at + 1),
-            Some(b')') => return (2, at, at + 1),
-            Some(byte) if !atom(*byte) => return (0, at, at),
-            Some(_) => break,
-        }
-    }
-    let end = source[at..].iter().position(|byte| !atom(*byte)).map_or(source.len(), |length| at + length);
-    match source.get(end) {
-        Some(byte) if !layout(*byte) && !matches!(byte, b'(' | b')' | b';') => (0, end, end),
-        _ => (3, at, end),
-    }
+/// The class, 0 for a token; how many values follow, and the values: kind, start and end, or the refused byte's offset.
+pub fn token(source: &[u8], at: usize) -> (u8, [u64; 4]) {
+    let mut answer = [0; 4];
+    // SAFETY: as above; any offset may be asked of.
+    let class = unsafe { sulyterom_token(source.as_ptr(), source.len(), at, answer.as_mut_ptr(), answer.len()) };
+    (class, answer)
 }

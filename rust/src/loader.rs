@@ -1,7 +1,6 @@
 //! Tables that are kept and grow.
-use crate::library::{self, Told};
 use crate::tables::Sizes;
-use crate::{Comparison, Dependence, Loaded, Refusal, Tables};
+use crate::{Comparison, Dependence, Listing, Loaded, Refusal, Tables, library};
 
 /// A loader with tables of its own, which are kept from one source to the next and grow as sources need it, so that
 /// none is refused for their sizes.
@@ -40,6 +39,14 @@ impl Loader {
         Loaded::told(source, tables, told)
     }
 
+    /// Gives a source's listing, as [`list`](crate::list) does.
+    pub fn list(&mut self, source: &[u8]) -> Listing {
+        let tables = &mut self.tables;
+        Listing::with_room(crate::room(source), |text| {
+            enough([source.len()], |[sizes]| library::list(source, tables.grown(sizes), text))
+        })
+    }
+
     /// Asks whether the declaration at place `i` depends on the one at place `j`, as [`depends`](crate::depends) does.
     ///
     /// # Errors
@@ -69,7 +76,7 @@ impl Default for Loader {
 
 /// Asks with the sizes that sources of these lengths are likely to need and, where a table is too short, once more with
 /// the most that they can need.
-fn enough<const N: usize>(bytes: [usize; N], mut ask: impl FnMut([Sizes; N]) -> Told) -> Told {
+fn enough<const N: usize, T>(bytes: [usize; N], mut ask: impl FnMut([Sizes; N]) -> (u8, T)) -> (u8, T) {
     match ask(bytes.map(Sizes::likely)) {
         (8..=10, _) => ask(bytes.map(Sizes::most)),
         told => told,

@@ -1,5 +1,5 @@
 //! Tokens of a source.
-use crate::{Class, Refusal, library};
+use crate::{Refusal, library};
 use core::iter;
 
 /// What a token is.
@@ -30,7 +30,7 @@ pub struct Token {
 ///
 /// # Errors
 ///
-/// [`Class::Malformed`] at a byte that can be no part of a token.
+/// [`Class::Malformed`](crate::Class::Malformed) at a byte that can be no part of a token.
 ///
 /// ```
 /// use sulyterom::{Token, TokenKind, token};
@@ -40,9 +40,12 @@ pub struct Token {
 /// assert_eq!(token(source, 20).unwrap_err().offset, Some(21));
 /// ```
 pub fn token(source: &[u8], at: usize) -> Result<Token, Refusal> {
-    let (kind, start, end) = library::token(source, at);
+    let (kind, start, end) = match library::token(source, at) {
+        (0, [3, kind, start, end]) => (kind, start as usize, end as usize),
+        (class, [count, offset, 0, 0]) => return Err(Refusal::from_numbers(class, [count, offset, 0])),
+        (class, answer) => unreachable!("the library's promise rules out {class} with {answer:?}"),
+    };
     let kind = match kind {
-        0 => return Err(Refusal { class: Class::Malformed, offset: Some(start) }),
         1 => TokenKind::LeftParenthesis,
         2 => TokenKind::RightParenthesis,
         3 => TokenKind::Atom,

@@ -1,5 +1,5 @@
 //! Every source of tests/lists/answers.txt: a loaded one is shown as its listing, a refused one by its class and offset.
-use sulyterom::{Class, LONGEST_SOURCE, SurfaceRow, Tables, load};
+use sulyterom::{Class, LONGEST_SOURCE, Loader, SurfaceRow, Tables, load};
 
 #[path = "../../tests/common/escape.rs"]
 #[allow(dead_code)]
@@ -18,16 +18,29 @@ fn list() -> Vec<(Vec<u8>, String)> {
     lines.map(line).collect()
 }
 
+fn str(text: &[u8]) -> &str {
+    std::str::from_utf8(text).expect("a listing is ASCII")
+}
+
 #[test]
 fn shown_as_listed() {
     let mut tables = Tables::for_bytes(LONGEST_SOURCE);
+    let mut loader = Loader::new();
     let mut limits = 0;
     for (source, answer) in list() {
         match load(&source, &mut tables) {
-            Ok(loaded) => assert_eq!(loaded.to_string(), format!("{answer}\n")),
+            Ok(loaded) => {
+                assert_eq!(loaded.to_string(), format!("{answer}\n"));
+                let listing = loader.list(&source);
+                assert_eq!((str(&listing.text), listing.refusal), (format!("{answer}\n").as_str(), None));
+            }
             // the list has the Rust's answer, which knows no such limits
             Err(refusal) if refusal.class >= Class::LongSource => limits += 1,
-            Err(refusal) => assert_eq!(refusal.to_string(), format!("{answer}: {}", refusal.class)),
+            Err(refusal) => {
+                assert_eq!(refusal.to_string(), format!("{answer}: {}", refusal.class));
+                let listing = loader.list(&source);
+                assert_eq!((str(&listing.text), listing.refusal), (format!("{answer}\n").as_str(), Some(refusal)));
+            }
         }
     }
     assert!(limits > 0);

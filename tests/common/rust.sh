@@ -24,8 +24,8 @@ compiled() {
   mv "$output.new" "$output"
 }
 
-# station_crate: the Rust crate over target/staticlib/libstation.a, as libsulyterom.rlib.
-station_crate() {
-  compiled "$out/libsulyterom.rlib" rust/src/lib.rs "$(echo rust/src/*.rs) target/staticlib/libstation.a" \
+# rust_crate: the Rust crate over target/staticlib/libsulyterom.a, as libsulyterom.rlib.
+rust_crate() {
+  compiled "$out/libsulyterom.rlib" rust/src/lib.rs "$(echo rust/src/*.rs) target/staticlib/libsulyterom.a" \
     --crate-type rlib --crate-name sulyterom -L native=target/staticlib
 }

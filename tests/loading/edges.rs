@@ -30,7 +30,7 @@ fn long(prng: &mut Prng) -> Vec<u8> {
     if prng.chance(50) {
         source.extend(b"\n;");
     }
-    let last: &[u8] = if prng.chance(40) { prng.pick(&FAULTS) } else { b"" };
+    let last: &[u8] = if prng.chance(40) { prng.pick::<&[u8]>(&FAULTS) } else { b"" };
     source.resize(length - last.len(), b' ');
     source.extend(last);
     source
@@ -70,7 +70,7 @@ fn open_frames(prng: &mut Prng) -> Vec<u8> {
         let inner = prng.below(form.arity);
         text.push_str(&format!("({} {name} {}", form.word, "nat ".repeat(inner)));
     }
-    text.push_str(prng.pick(&FRAGMENTS));
+    text.push_str(prng.pick::<&str>(&FRAGMENTS));
     text.into_bytes()
 }
 

@@ -67,7 +67,7 @@ fn deep_term(frames: usize, around: &mut Vec<String>, pool: &[String], prng: &mu
 
 fn small_term(around: &[String], prng: &mut Prng) -> Term {
     match prng.below(4) {
-        0 => Term::Leaf(prng.pick(&LEAVES)),
+        0 => Term::Leaf(prng.pick::<&str>(&LEAVES)),
         1 => Term::Universe(numeral(prng, 1)),
         _ if around.is_empty() => Term::Leaf("nat"),
         _ => Term::Ref(prng.pick(around).clone()),

@@ -1,4 +1,4 @@
-//! The Rattle library `station` through the Rust crate over it, its answers as document 01's numbers again. Under
+//! The Rattle library `sulyterom` through the Rust crate over it, its answers as document 01's numbers again. Under
 //! `--cfg mock` the mock stands in its place.
 use super::tables::Tables;
 use sulyterom::Refusal;

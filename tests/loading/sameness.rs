@@ -1,4 +1,4 @@
-//! The same-core question of the Rattle library `station` through the Rust crate, its answers as numbers again.
+//! The same-core question of the Rattle library `sulyterom` through the Rust crate, its answers as numbers again.
 use super::library::tables;
 use super::tables::Tables;
 use sulyterom::{Comparison, Refusal};

@@ -5,7 +5,7 @@ use crate::source::Source;
 use std::ffi::OsStr;
 use std::fmt::Write;
 use std::path::Path;
-use sulyterom::{Class, Comparison, LONGEST_SOURCE, Loader, Refusal, Tables, Target, TokenKind, load};
+use sulyterom::{Class, Comparison, LONGEST_SOURCE, Loader, Refusal, Tables, Target, TokenKind};
 
 /// "It lends 1,024 rows to each row table, 256 declarations and a work area of 16,384 words."
 pub const ROWS: usize = 1_024;
@@ -73,10 +73,13 @@ fn refused(source: &Source, refusal: Refusal, storage: Storage) -> Answer {
 
 pub fn list(storage: Storage, file: &OsStr) -> Result<Answer, NotAsked> {
     let source = Source::read(file)?;
-    let mut tables = storage.tables(source.bytes.len());
-    Ok(match load(&source.bytes, &mut tables) {
-        Ok(loaded) => Answer::new(Status::Yes, loaded.to_string()),
-        Err(refusal) => refused(&source, refusal, storage),
+    let listing = match storage {
+        Storage::Document01 => sulyterom::list(&source.bytes, &mut storage.tables(source.bytes.len())),
+        Storage::Large => Loader::new().list(&source.bytes),
+    };
+    Ok(match listing.refusal {
+        None => Answer::new(Status::Yes, listing.text),
+        Some(refusal) => Answer::refused(listing.text, sentence::of(&source, refusal, storage)),
     })
 }
 
@@ -88,11 +91,9 @@ pub fn references(file: &OsStr) -> Result<Answer, NotAsked> {
         Err(refusal) => return Ok(refused(&source, refusal, Storage::Large)),
     };
     let mut text = String::new();
-    let mut place = Counter::default();
     for reference in loaded.references() {
         let name = reference.name;
-        let (line, column) = place.at(&source.bytes, name.start);
-        let _ = write!(text, "{line}:{column} {name} ");
+        let _ = write!(text, "{} {name} ", source.position(name.start));
         let _ = match reference.target {
             Target::Var { count } => writeln!(text, "var {count}"),
             Target::Global { place } => {
@@ -171,26 +172,5 @@ fn no_text(source: &[u8]) -> Option<Refusal> {
     match std::str::from_utf8(source) {
         Err(error) => Some(malformed(error.valid_up_to())),
         Ok(text) => text.starts_with('\u{feff}').then(|| malformed(0)),
-    }
-}
-
-/// Lines and columns of offsets that do not fall, counted on from the last one.
-#[derive(Default)]
-struct Counter {
-    offset: usize,
-    lines: usize,
-    start: usize,
-}
-
-impl Counter {
-    fn at(&mut self, source: &[u8], offset: usize) -> (usize, usize) {
-        for (at, byte) in source.iter().enumerate().take(offset).skip(self.offset) {
-            if *byte == b'\n' {
-                self.lines += 1;
-                self.start = at + 1;
-            }
-        }
-        self.offset = offset;
-        (self.lines + 1, offset - self.start + 1)
     }
 }

@@ -5,6 +5,9 @@ use crate::source::Source;
 use std::collections::HashMap;
 use sulyterom::{Class, LONGEST_SOURCE, Loader, MOST_FRAMES, Refusal, Token, TokenKind, load, token, tokens};
 
+/// Bytes of a token that a sentence shows at most.
+const LONGEST_SHOWN: usize = 80;
+
 /// Where something is, if it is anywhere, and what.
 type Told = (Option<usize>, String);
 
@@ -44,8 +47,11 @@ fn why(source: &Source, refusal: Refusal, storage: Storage) -> Told {
     }
 }
 
+/// A token as it is written, or the beginning of a long one.
 fn text(source: &[u8], token: Token) -> String {
-    String::from_utf8_lossy(&source[token.start..token.end]).into_owned()
+    let bytes = &source[token.start..token.end];
+    let shown = String::from_utf8_lossy(&bytes[..bytes.len().min(LONGEST_SHOWN)]);
+    if bytes.len() > LONGEST_SHOWN { format!("{shown}..") } else { shown.into_owned() }
 }
 
 fn malformed(source: &[u8], at: usize) -> String {

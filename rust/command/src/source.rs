@@ -12,6 +12,8 @@ use sulyterom::LONGEST_SOURCE;
 pub struct Source {
     pub name: String,
     pub bytes: Vec<u8>,
+    /// Where each line starts.
+    lines: Vec<usize>,
 }
 
 /// A place in a source: lines count from 1 and end at byte 10, columns count bytes from 1.
@@ -21,6 +23,12 @@ pub struct Position {
 }
 
 impl Source {
+    fn new(name: String, bytes: Vec<u8>) -> Self {
+        let ends = bytes.iter().enumerate().filter(|(_, byte)| **byte == b'\n');
+        let lines = std::iter::once(0).chain(ends.map(|(at, _)| at + 1)).collect();
+        Self { name, bytes, lines }
+    }
+
     /// The source in a file, or on standard input for `-`.
     pub fn read(file: &OsStr) -> Result<Self, NotAsked> {
         let (name, opened) = if file == "-" {
@@ -32,16 +40,14 @@ impl Source {
             (name, beginning(&input))
         };
         match opened {
-            Ok(bytes) => Ok(Self { name, bytes }),
+            Ok(bytes) => Ok(Self::new(name, bytes)),
             Err(error) => Err(NotAsked(format!("cannot read {name}: {}", reason(&error)))),
         }
     }
 
     pub fn position(&self, offset: usize) -> Position {
-        let before = &self.bytes[..offset];
-        let line = before.iter().filter(|byte| **byte == b'\n').count() + 1;
-        let start = before.iter().rposition(|byte| *byte == b'\n').map_or(0, |end| end + 1);
-        Position { line, column: offset - start + 1 }
+        let line = self.lines.partition_point(|start| *start <= offset);
+        Position { line, column: offset - self.lines[line - 1] + 1 }
     }
 }
 
@@ -101,7 +107,7 @@ mod tests {
 
     #[test]
     fn lines_and_columns_from_1() {
-        let source = Source { name: String::new(), bytes: b"ab\n\nc\xc3\xa9d".to_vec() };
+        let source = Source::new(String::new(), b"ab\n\nc\xc3\xa9d".to_vec());
         let shown = |offset| source.position(offset).to_string();
         assert_eq!([0, 1, 2, 3, 4, 7, 8].map(shown), ["1:1", "1:2", "1:3", "2:1", "3:1", "3:4", "3:5"]);
     }
