@@ -1,13 +1,9 @@
 -- The answers of the inner layers as numbers. Assumes nothing.
-use mathlib.Core.Path.{_≡_}
-use mathlib.Core.List.{List}
 use Prim.Native.Nat.{ℕ}
 use Rattle.token.specs.declared.Place.{Place}
 use Rattle.token.specs.declared.Lexed.{Lexed}
 use Rattle.words.specs.declared.NameTest.{NameTest}
 pub use Rattle.surface.specs.Reports.{token-number}
-use Rattle.surface.specs.Tables.{Tables, lengths}
-use Rattle.loader.specs.Parsed.{parse, rows-read}
 
 abbrev pub place-number : Place → ℕ
 place-number (Place.At at) = at
@@ -30,9 +26,3 @@ abbrev pub test-number : NameTest → ℕ
 test-number NameTest.Name = 0
 test-number NameTest.Reserved = 3
 test-number NameTest.NotIdentifier = 1
-
--- Reading alone answers how many rows were stored, 0 after a refusal, and leaves the tables as `parse_surface` does.
-abbrev pub CountsRows : List ℕ → Tables → ℕ → Tables → Type 0
-CountsRows s before rows after =
-    let o = parse s (lengths before) in
-    (rows ≡ rows-read (o .answer)) × (after ≡ o .tables)

@@ -1,12 +1,9 @@
 // The inner layers as plain numbers, for tests in Rust to link: `rt staticlib probe`.
 ghost use mathlib.Core.Path.{_≡_};
-ghost use mathlib.Core.List.{[]};
-ghost use Rattle.surface.specs.Tables.{tables};
 ghost use Rattle.token.specs.Token.{next-token};
 ghost use Rattle.words.specs.Words.{same-bytes, word-index, numeral, name-test};
 ghost use Rattle.utf8.specs.Utf8.{valid-length, byte-order-mark};
-ghost use Rattle.probe.specs.Numbers.{place-number, token-number, kind-number, start-number, end-number, test-number, CountsRows};
-use reader::ModuleRead;
+ghost use Rattle.probe.specs.Numbers.{place-number, token-number, kind-number, start-number, end-number, test-number};
 use token::Lexed;
 use token::Place;
 use token::TokenKind;
@@ -143,29 +140,4 @@ pub extern "C" fn sulyterom_starts_with_mark(s: &[u8]) -> bool
     ensures { λ r. ⌜ r ≡ byte-order-mark (now (s .entry)) ⌝ }
 {
     utf8::starts_with_mark(s)
-}
-
-// How many rows reading alone stores, for measurements: 0 after a refusal.
-#[no_mangle]
-pub extern "C" fn sulyterom_parse(
-    s: &[u8],
-    surface: &mut [u32],
-    declarations: &mut [u32],
-    work: &mut [u32],
-) -> usize
-    ensures { λ r. ⌜
-        CountsRows (now (s .entry))
-        (tables (now (surface .entry)) [] (now (declarations .entry)) (now (work .entry)))
-        r
-        (tables (now (surface .exit)) [] (now (declarations .exit)) (now (work .exit)))
-        ⌝ }
-{
-    let read = loader::parse_surface(s, surface, declarations, work);
-    match read {
-        ModuleRead::Done {
-            rows,
-            declarations: _,
-        } => rows,
-        ModuleRead::Refused(_) => 0,
-    }
 }
