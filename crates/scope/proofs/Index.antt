@@ -6,7 +6,6 @@ use mathlib.Core.Option.{Option, none, some}
 use mathlib.Core.Bool.{Bool, true, false}
 use native.Mathlib.Omega.{arith}
 use native.Mathlib.Decide.{ℕ-discrete}
-use native.Mathlib.Nat.{mod-lt, div-lt-iff-lt-mul}
 use borrow.Author.Tests.{lt-ltb, le-ltb}
 use lib.ListN.{length, getD, set, drop, drop-of-length-le, length-set}
 use lib.Seq.{getD-set-same, getD-set-other}
@@ -16,7 +15,7 @@ use Rattle.words.proofs.Names.{eq-same, same-eq, same-ne, ne-same}
 use Rattle.terms.specs.Label.{Name}
 use Rattle.terms.specs.Resolution.{next-number, find}
 use Rattle.scope.specs.Scope.{declared-names}
-use Rattle.scope.specs.Index.{heads, places, all-slots, mixed, mark-of, bit-of, link-of, Way, here, further, name-at, Entered, Indexed, Open, Searched}
+use Rattle.scope.specs.Index.{heads, places, all-slots, mixed, mark-of, name-bit, bit-of, link-of, Way, here, further, name-at, Entered, Indexed, Open, Searched}
 use Rattle.scope.specs.declared.Slot.{Slot}
 
 module _ (x : Name) (i m : ℕ) where
@@ -28,26 +27,22 @@ module _ (x : Name) (i m : ℕ) where
   unfolding mixed
   mixed-end h = ap (mixed m) (drop-of-length-le x h)
 
-mixed-low : (x : Name) (m : ℕ) → m < 4294967296 → mixed m x < 4294967296
-unfolding mixed
-mixed-low [] m h = h
-mixed-low (b ∷ x) m h = mixed-low x ((m + b) * 374761393 % 4294967296) (mod-lt ((m + b) * 374761393) (omega arith))
-
 pub marked : (x : Name) (m : ℕ) → m ≡ mixed 0 x → m / 1048576 ≡ mark-of x
 unfolding mark-of
 marked x m e = ap (λ (n : ℕ). n / 1048576) e
 
-pub mark-low : (x : Name) → mark-of x < 4096
-unfolding mark-of
-mark-low x = div-lt-iff-lt-mul {k = 1048576} {x = mixed 0 x} {y = 4096} (omega arith) .1 (omega (arith, mixed-low x 0 (omega arith)))
-
-pub bit-within : (x : Name) (i : ℕ) → i / 8 < length x → bit-of x i ≡ getD x (length x - 1 - i / 8) 0 / 2 ^ (i % 8) % 2
+pub bit-mixed : (x : Name) (m i : ℕ) → m ≡ mixed 0 x → i < 20 → bit-of x i ≡ m / 2 ^ i % 2
 unfolding bit-of
-bit-within x i h = rw (bit-of, lt-ltb (i / 8) (length x) h)
+bit-mixed x m i e h = rw (bit-of, lt-ltb i 20 h, e)
 
-pub bit-behind : (x : Name) (i : ℕ) → length x ≤ i / 8 → bit-of x i ≡ 0
-unfolding bit-of
-bit-behind x i h = rw (bit-of, le-ltb (i / 8) (length x) h)
+module _ (x : Name) (i : ℕ) (h : 20 ≤ i) where
+  pub bit-within : (i - 20) / 8 < length x → bit-of x i ≡ getD x (length x - 1 - (i - 20) / 8) 0 / 2 ^ ((i - 20) % 8) % 2
+  unfolding bit-of name-bit
+  bit-within l = rw (bit-of, le-ltb i 20 h, name-bit, lt-ltb ((i - 20) / 8) (length x) l)
+
+  pub bit-behind : length x ≤ (i - 20) / 8 → bit-of x i ≡ 0
+  unfolding bit-of name-bit
+  bit-behind l = rw (bit-of, le-ltb i 20 h, name-bit, le-ltb ((i - 20) / 8) (length x) l)
 
 -- None of d declarations from place k on has the name.
 none-named : (x : Name) (s t : List ℕ) (k d : ℕ) → ((j : ℕ) → k ≤ j → j < k + d → x ≡ name-at s t j → ⊥) → none ≡ find x (declared-names s t k d)

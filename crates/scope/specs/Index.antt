@@ -1,6 +1,6 @@
 -- Ours: an index from the names of declarations to their places, a search tree under each head. A name's mark chooses a head; a head and a link hold a
--- place, as one more than itself, and 0 is none; from a place whose name is another one the walk goes on by one of its two links, which the next bit of
--- the name looked for chooses. Assumes nothing.
+-- place, as one more than itself, and 0 is none; from a place whose name is another one the walk goes on by one of its two links, which the next bit
+-- chooses: of the number mixed from the name looked for, and then of that name. Assumes nothing.
 -- Only contracts of functions that `elaborate` calls on its way cite this.
 use Prim.Native.Nat.{ℕ, _+_, _-_, _*_, _/_, _%_, _^_, _<_, _≤_}
 use mathlib.Core.Path.{_≡_}
@@ -34,8 +34,12 @@ unfoldable pub mark-of : Name → ℕ
 mark-of x = mixed 0 x / 1048576
 
 -- Bit i of a name, counted from the lowest of its last byte towards its first, and 0 then: names that differ do so in a bit.
+unfoldable pub name-bit : Name → ℕ → ℕ
+name-bit x i = cond (ltb (i / 8) (length x)) (getD x (length x - 1 - i / 8) 0 / 2 ^ (i % 8) % 2) 0
+
+-- Bit i of the walk for a name: the 20 of its number that chose no head, and then those of the name.
 unfoldable pub bit-of : Name → ℕ → ℕ
-bit-of x i = cond (ltb (i / 8) (length x)) (getD x (length x - 1 - i / 8) 0 / 2 ^ (i % 8) % 2) 0
+bit-of x i = cond (ltb i 20) (mixed 0 x / 2 ^ i % 2) (name-bit x (i - 20))
 
 -- The slot of the link of place k for the bit b, behind the heads.
 abbrev pub link-of : ℕ → ℕ → ℕ

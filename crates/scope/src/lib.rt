@@ -8,7 +8,7 @@ ghost use Rattle.words.specs.Words.{same-bytes};
 ghost use Rattle.terms.specs.Label.{part};
 ghost use Rattle.terms.specs.Resolution.{find, core-of};
 ghost use Rattle.scope.specs.Scope.{place-of, core-of-referent, Binders, local-names, declared-names, reference};
-ghost use Rattle.scope.specs.Index.{places, heads, all-slots, mark-of, bit-of, name-at, Indexed, Searched};
+ghost use Rattle.scope.specs.Index.{places, all-slots, mixed, bit-of, name-at, Indexed, Searched};
 
 // How many words a declaration record has.
 const RECORD: usize = 5;
@@ -27,8 +27,11 @@ const NUMBERS: usize = 4294967296;
 
 const SHARE: usize = NUMBERS / HEADS;
 
+// How many bits of such a number choose no head.
+const LOW_BITS: usize = 20;
+
 // The number of a name in a list of names, counted from 0.
-pub enum Found {
+enum Found {
     At(u32),
     Nothing,
 }
@@ -84,13 +87,6 @@ fn is_name(s: &[u8], start: u32, length: u32, x: &[u8]) -> bool
     words::same_bytes(x, &s[a..a + n])
 }
 
-pub fn same_name(s: &[u8], a: u32, n: u32, b: u32, m: u32) -> bool
-    ensures { λ r. ⌜ r ≡ same-bytes (part (now (s .entry)) a n) (part (now (s .entry)) b m) ⌝ }
-{
-    let x = atom(s, a, n);
-    is_name(s, b, m, x)
-}
-
 // How many binders lie between a name and the innermost one of that name. A part is no longer than it says: most are passed by their length.
 fn find_local(s: &[u8], work: &[u32], depth: usize, start: u32, length: u32) -> Found
     requires { ⌜ Binders (now work) depth ⌝ }
@@ -136,9 +132,9 @@ fn find_declared(s: &[u8], declarations: &[u32], d: usize, x: &[u8]) -> Found
     Found::Nothing
 }
 
-// The mark of a name, one for each head of the index: names with other marks are other names.
-fn mark(x: &[u8]) -> usize
-    ensures { λ r. ⌜ (r ≡ mark-of (now (x .entry))) × (r < heads) ⌝ }
+// A name's bytes mixed into a number: names with other numbers are other names.
+fn mix(x: &[u8]) -> usize
+    ensures { λ r. ⌜ (r ≡ mixed 0 (now (x .entry))) × (r < 4294967296) ⌝ }
 {
     let mut mixed: usize = 0;
     let mut i = 0;
@@ -147,19 +143,24 @@ fn mark(x: &[u8]) -> usize
         mixed = (mixed + b) * MULTIPLIER % NUMBERS;
         i += 1;
     }
-    mixed / SHARE
+    mixed
 }
 
-// Bit i of a name, from its end.
-fn bit(x: &[u8], i: usize) -> usize
+// Bit i of the walk for a name whose number is m: those of the number that chose no head, then those of the name, from its end.
+fn bit(x: &[u8], m: usize, i: usize) -> usize
+    requires { ⌜ m ≡ mixed 0 (now x) ⌝ }
     ensures { λ r. ⌜ (r ≡ bit-of (now (x .entry)) i) × (r < 2) ⌝ }
 {
-    let k = i / 8;
+    if i < LOW_BITS {
+        return (m >> i) % 2;
+    }
+    let j = i - LOW_BITS;
+    let k = j / 8;
     if x.len() <= k {
         return 0;
     }
     let b = x[x.len() - 1 - k] as usize;
-    (b >> i % 8) % 2
+    (b >> j % 8) % 2
 }
 
 // The search for the name x in an index that holds the first d declarations.
@@ -167,7 +168,8 @@ fn find_slot(s: &[u8], declarations: &[u32], index: &[u16], d: usize, x: &[u8]) 
     requires { ⌜ (d ≤ places) × (length (now index) ≡ all-slots) × Indexed (now s) (now declarations) d (now index) ⌝ }
     ensures { λ r. ⌜ Searched (now (s .entry)) (now (declarations .entry)) (now (x .entry)) d (now (index .entry)) r ⌝ }
 {
-    let mut slot = mark(x);
+    let m = mix(x);
+    let mut slot = m / SHARE;
     let mut i: usize = 0;
     loop {
         let e = index[slot] as usize;
@@ -181,7 +183,7 @@ fn find_slot(s: &[u8], declarations: &[u32], index: &[u16], d: usize, x: &[u8]) 
             let place = k as u32;
             return Slot::Held(place);
         }
-        let b = bit(x, i);
+        let b = bit(x, m, i);
         slot = HEADS + 2 * k + b;
         i += 1;
     }

@@ -5,27 +5,27 @@ use native.Mathlib.Omega.{arith}
 use lib.ListN.{length, getD}
 use borrow.Author.Needs.{needs}
 use Rattle.scope.specs.Index.{heads}
-use Rattle.scope.proofs.Index.{Walked, walk-begins, walk-ends, walk-goes-on, walk-hits}
+use Rattle.scope.proofs.Index.{marked, Walked, walk-begins, walk-ends, walk-goes-on, walk-hits}
 use Rattle.scope.proofs.find_slot.Statement.{statement}
 use Rattle.scope.proofs.find_slot.Tie as tie
 
 abbrev Inv-loop : tie.InvT-loop
-Inv-loop s declarations index d x slot₀ i₀ slot i = (i ≤ slot) × (slot < heads + 2 * d) × Walked s declarations x d index i slot
+Inv-loop s declarations index d x m slot₀ i₀ slot i = (i ≤ slot) × (slot < heads + 2 * d) × Walked s declarations x d index i slot
 
 abbrev μ-loop : tie.MeasureT-loop
-μ-loop s declarations index d x slot₀ i₀ slot i = length index - slot
+μ-loop s declarations index d x m slot₀ i₀ slot i = length index - slot
 
-mark-requires : tie.Need-mark-requires Inv-loop μ-loop
-mark-requires c κs = search needs
+mix-requires : tie.Need-mix-requires Inv-loop μ-loop
+mix-requires c κs = search needs
 
 loop-holds : tie.Need-loop-holds Inv-loop μ-loop
 loop-holds c =
     let o = c .before .before .before .before .before in
     let a = o .args in
-    let m = c .mark .ensures in (
+    let m = c .mix .ensures in (
       omega arith,
       omega arith,
-      subst (Walked (a .s .now) (a .declarations .now) (a .x .now) (a .d) (a .index .now) 0) (sym (m .0))
+      subst (Walked (a .s .now) (a .declarations .now) (a .x .now) (a .d) (a .index .now) 0) (sym (marked _ _ (m .0)))
           (walk-begins (a .s .now) (a .declarations .now) (a .x .now) (a .d) (a .index .now) (o .pre .2 .entered (o .pre .1) (o .pre .0))),
     )
 
@@ -166,7 +166,7 @@ find-slot-spec =
     (tie.spec
     Inv-loop
     μ-loop
-    mark-requires
+    mix-requires
     loop-holds
     mul-e
     shared-slice-read-e

@@ -1,13 +1,13 @@
--- `mark` meets its contract: the bytes before i are taken in. Assumes nothing.
-use Prim.Native.Nat.{_-_, _/_, _<_}
+-- `mix` meets its contract: the bytes before i are taken in. Assumes nothing.
+use Prim.Native.Nat.{_-_, _<_}
 use mathlib.Core.Path.{_≡_, refl, sym, _∙_}
 use native.Mathlib.Omega.{arith}
 use native.Mathlib.Nat.{mod-lt}
 use lib.ListN.{length, drop}
-use Rattle.scope.specs.Index.{mixed, mark-of}
-use Rattle.scope.proofs.Index.{mixed-more, mixed-end, marked, mark-low}
-use Rattle.scope.proofs.mark.Statement.{statement}
-use Rattle.scope.proofs.mark.Tie as tie
+use Rattle.scope.specs.Index.{mixed}
+use Rattle.scope.proofs.Index.{mixed-more, mixed-end}
+use Rattle.scope.proofs.mix.Statement.{statement}
+use Rattle.scope.proofs.mix.Tie as tie
 
 abbrev Inv-loop : tie.InvT-loop
 Inv-loop x mixed₀ i₀ m i = (m < 4294967296) × (mixed 0 x ≡ mixed m (drop i x))
@@ -44,11 +44,10 @@ loop-again c =
 returns : tie.Need-returns Inv-loop μ-loop
 returns c =
     let l = c .before .loop in
-    let m : l .mixed / 1048576 ≡ mark-of (c .before .before .args .x .now) = marked _ _ (sym (l .inv .1 ∙ mixed-end _ _ _ (c .loop-test .left))) in
-    (m, rw m (mark-low _))
+    (sym (l .inv .1 ∙ mixed-end _ _ _ (c .loop-test .left)), l .inv .0)
 
-pub mark-spec : {M : Type 1} → statement M
-mark-spec =
+pub mix-spec : {M : Type 1} → statement M
+mix-spec =
     tie.close
     (tie.spec
     Inv-loop
