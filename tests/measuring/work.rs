@@ -5,7 +5,7 @@ use std::hint::black_box;
 use sulyterom::{LONGEST_SOURCE, Loader, Tables, load};
 
 // A slice passes as a pointer and then a length.
-#[link(name = "probe", kind = "static")]
+#[link(name = "sulyterom", kind = "static")]
 unsafe extern "C" {
     fn sulyterom_parse(
         source: *const u8,
@@ -16,7 +16,9 @@ unsafe extern "C" {
         declarations_length: usize,
         work: *mut u32,
         work_length: usize,
-    ) -> usize;
+        answer: *mut u64,
+        answer_length: usize,
+    ) -> u8;
 }
 
 /// Who works, and for us with which tables.
@@ -89,8 +91,10 @@ fn by_rust(task: Task, text: &[u8]) -> usize {
 
 fn read(source: &[u8], tables: &mut Tables) -> usize {
     let [surface, _, declarations, work] = tables.lend().into_words();
+    // how many values follow, the rows and the declarations; or an offset
+    let mut answer = [0; 3];
     // SAFETY: each pointer comes with its slice's length.
-    unsafe {
+    let class = unsafe {
         sulyterom_parse(
             source.as_ptr(),
             source.len(),
@@ -100,6 +104,9 @@ fn read(source: &[u8], tables: &mut Tables) -> usize {
             declarations.len(),
             work.as_mut_ptr(),
             work.len(),
+            answer.as_mut_ptr(),
+            answer.len(),
         )
-    }
+    };
+    if class == 0 { answer[1] as usize } else { 0 }
 }

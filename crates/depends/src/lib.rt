@@ -126,7 +126,12 @@ pub fn depends(
     declarations: &mut [u32],
     work: &mut [u32],
 ) -> Dependence
-    ensures { λ r. ⌜ Asks (now (s .entry)) i j (tables (now (surface .entry)) (now (core .entry)) (now (declarations .entry)) (now (work .entry))) r (tables (now (surface .exit)) (now (core .exit)) (now (declarations .exit)) (now (work .exit))) ⌝ }
+    ensures { λ r. ⌜
+        Asks (now (s .entry)) i j
+        (tables (now (surface .entry)) (now (core .entry)) (now (declarations .entry)) (now (work .entry)))
+        r
+        (tables (now (surface .exit)) (now (core .exit)) (now (declarations .exit)) (now (work .exit)))
+        ⌝ }
 {
     let loaded = loader::load(s, surface, core, declarations, work);
     match loaded {

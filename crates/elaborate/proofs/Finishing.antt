@@ -5,8 +5,10 @@ use mathlib.Core.List.{List, [], _∷_, _++_}
 use mathlib.Core.Bool.{Bool, true, false, cond}
 use native.Mathlib.Omega.{arith}
 use lib.Dec.{eqb}
-use lib.ListN.{length, take, drop, length-drop}
-use Rattle.terms.specs.Forms.{universe, arity-of}
+use borrow.Author.Tests.{eq-eqb, ne-eqb}
+use native.Mathlib.Decide.{ℕ-discrete}
+use lib.ListN.{length, getD, take, drop, length-drop}
+use Rattle.terms.specs.Forms.{universe, arity-of, form-of-kind, forms}
 use Rattle.terms.specs.Resolution.{Core, is-unknown}
 use Rattle.terms.specs.Rows.{pad, row, core-words}
 use Rattle.rows.proofs.Arities.{arity-at-most-six}
@@ -41,18 +43,55 @@ take-pad m (x ∷ l) zero e h = absurd (omega arith)
 take-pad zero (x ∷ l) (suc n) e h = absurd (omega arith)
 take-pad (suc m) (x ∷ l) (suc n) e h = ap (λ (r : List ℕ). x ∷ r) (take-pad m l n (omega arith) (omega arith))
 
+-- Six words, read one by one.
+pub six-words : (l : List ℕ) → length l ≡ 6 → getD l 0 0 ∷ getD l 1 0 ∷ getD l 2 0 ∷ getD l 3 0 ∷ getD l 4 0 ∷ getD l 5 0 ∷ [] ≡ l
+six-words [] h = absurd (omega arith)
+six-words (a ∷ []) h = absurd (omega arith)
+six-words (a ∷ b ∷ []) h = absurd (omega arith)
+six-words (a ∷ b ∷ c ∷ []) h = absurd (omega arith)
+six-words (a ∷ b ∷ c ∷ d ∷ []) h = absurd (omega arith)
+six-words (a ∷ b ∷ c ∷ d ∷ e ∷ []) h = absurd (omega arith)
+six-words (a ∷ b ∷ c ∷ d ∷ e ∷ f ∷ []) h = refl
+six-words (a ∷ b ∷ c ∷ d ∷ e ∷ f ∷ g ∷ l) h = absurd (omega arith)
+
+pad-more : (n : ℕ) (l : List ℕ) → length l ≤ n → pad n l ++ (0 ∷ []) ≡ pad (suc n) l
+pad-more zero [] h = refl
+pad-more zero (x ∷ l) h = absurd (omega arith)
+pad-more (suc n) [] h = ap (λ (r : List ℕ). 0 ∷ r) (pad-more n [] (omega arith))
+pad-more (suc n) (x ∷ l) h = ap (λ (r : List ℕ). x ∷ r) (pad-more n l (omega arith))
+
+arity-universe : arity-of universe ≡ 0
+unfolding arity-of form-of-kind forms
+arity-universe = refl
+
+empty : (l : List ℕ) → length l ≡ 0 → l ≡ []
+empty [] e = refl
+empty (x ∷ l) e = absurd (omega arith)
+
+-- A form's row, without a choice for each word: only a universe has a span, and no arguments.
+words-of-form : (k : ℕ) (l : List ℕ) → length l ≡ arity-of k → k ∷ pad 6 l ++ (0 ∷ []) ≡ row k (cond (eqb k universe) (0 ∷ 0 ∷ []) [] ++ l)
+words-of-form k l n = go (ℕ-discrete k universe)
+  where
+    go : Dec (k ≡ universe) → k ∷ pad 6 l ++ (0 ∷ []) ≡ row k (cond (eqb k universe) (0 ∷ 0 ∷ []) [] ++ l)
+    go (yes e) =
+        let none : l ≡ [] = empty l (n ∙ ap arity-of e ∙ arity-universe) in
+        ap (λ (x : List ℕ). k ∷ pad 6 x ++ (0 ∷ [])) none
+        ∙ (λ i. row k (cond (sym (eq-eqb k universe e) i) (0 ∷ 0 ∷ []) [] ++ sym none i))
+    go (no e) =
+        ap (λ (r : List ℕ). k ∷ r) (pad-more 6 l (omega (arith, arity-at-most-six k)))
+        ∙ ap (λ (b : Bool). row k (cond b (0 ∷ 0 ∷ []) [] ++ l)) (sym (ne-eqb k universe e))
+
 -- The values on top are the arguments' rows.
 pub built-row : (work : List ℕ) (st : State) (k n : ℕ) (values : List ℕ) → n ≡ arity-of k → n ≤ st .values
     → values ≡ pad 6 (drop (st .values - n) (values-in work (st .values - n + n)))
-    → row k (cond (eqb k universe) (0 ∷ 0 ∷ []) [] ++ take n values) ≡ form-row k st work
+    → k ∷ values ++ (0 ∷ []) ≡ form-row k st work
 built-row work st k n values e h q =
     let v = st .values in
-    let back : v - n + n ≡ v = omega arith in
     let l = drop (v - n) (values-in work v) in
-    let long : length l ≡ n = omega (arith, length-drop (v - n) (values-in work v), length-values work v) in
-    let top : take n values ≡ l =
-    ap (take n) (q ∙ ap (λ (m : ℕ). pad 6 (drop (v - n) (values-in work m))) back) ∙ take-pad 6 l n long (omega (arith, arity-at-most-six k)) in
-    ap (λ (r : List ℕ). row k (cond (eqb k universe) (0 ∷ 0 ∷ []) [] ++ r)) (top ∙ ap (λ (m : ℕ). drop (v - m) (values-in work v)) e)
+    let long : length l ≡ arity-of k = omega (arith, e, length-drop (v - n) (values-in work v), length-values work v) in
+    ap (λ (x : List ℕ). k ∷ x ++ (0 ∷ [])) (q ∙ ap (λ (m : ℕ). pad 6 (drop (v - n) (values-in work m))) (let back : v - n + n ≡ v = omega arith in back))
+    ∙ words-of-form k l long
+    ∙ ap (λ (m : ℕ). row k (cond (eqb k universe) (0 ∷ 0 ∷ []) [] ++ drop (v - m) (values-in work v))) e
 
 pub length-six : (t : List ℕ) (id : ℕ) (span : Bool) → length (six-at t id span) ≡ 6
 unfolding six-at

@@ -61,6 +61,14 @@ module _ (s surface declarations : List ℕ) (rows d : ℕ) (core work : List �
   abbrev W : List Work → State → List ℕ → List ℕ → Type 0
   W items st₁ core₁ work₁ = Went s surface declarations rows d items work st core st₁ core₁ work₁
 
+  -- The state under another name.
+  pub as-state : {items : List Work} {st₁ st₂ : State} {core₁ work₁ : List ℕ} → st₁ ≡ st₂ → W items st₂ core₁ work₁ → W items st₁ core₁ work₁
+  as-state {items} {st₁} {st₂} {core₁} {work₁} e h = subst (λ (x : State). W items x core₁ work₁) (sym e) h
+
+  pub stopped : (items : List Work) (step : Step) (core₁ work₁ : List ℕ) (a n : ℕ) → step ≡ Step.Unknown a n → outcome s surface declarations rows d items work st core ≡ unknown-at a n
+      → Stepped s surface declarations rows d items work st core step core₁ work₁
+  stopped items step core₁ work₁ a n e h = subst (λ (x : Step). Stepped s surface declarations rows d items work st core x core₁ work₁) (sym e) h
+
   module _ (id left : ℕ) (room : Room (Work.Eval id left ∷ works) (st .values) (st .locals)) where
     abbrev R : Outcome
     R = row-term s surface declarations rows d left id locals core
@@ -224,24 +232,35 @@ module _ (s surface declarations : List ℕ) (rows d : ℕ) (core work : List �
     fits = fits;
   }
 
--- The item on top of the others.
-pub top-item : (w : List ℕ) (n : ℕ) (r item : Work) → 0 < n → works-in w (n - 1 + 1) ≡ r ∷ works-in w (n - 1) → r ≡ item → works-in w n ≡ item ∷ works-in w (n - 1)
-top-item w n r item h e q = ap (works-in w) (let z : n ≡ n - 1 + 1 = omega arith in z) ∙ e ∙ ap (λ (x : Work). x ∷ works-in w (n - 1)) q
-
-pub top-room : (works items : List Work) (st : State) → works ≡ items → Room works (st .values) (st .locals) → Room items (st .values) (st .locals)
-top-room works items st e r = subst (λ (x : List Work). Room x (st .values) (st .locals)) e r
-
-abbrev pub below : State → State
+-- The state without the item on top.
+abbrev below : State → State
 below st = record { works = st .works - 1; values = st .values; locals = st .locals }
 
-pub top-stepped : (s surface declarations : List ℕ) (rows d : ℕ) (core work : List ℕ) (st : State) (items : List Work) (step : Step) (core₁ work₁ : List ℕ)
-    → works-in work (st .works) ≡ items → Stepped s surface declarations rows d items work (below st) core step core₁ work₁
-    → Stepped s surface declarations rows d (works-in work (st .works)) work st core step core₁ work₁
-top-stepped s surface declarations rows d core work st items (Step.Go st₁) core₁ work₁ e h = record {
-  same = ap (λ (x : List Work). outcome s surface declarations rows d x work st core) e ∙ h .same;
-  less = subst (λ (x : List Work). weight (works-in work₁ (st₁ .works)) < weight x) (sym e) (h .less);
-  room = h .room;
-  fits = h .fits;
-}
-top-stepped s surface declarations rows d core work st items (Step.Unknown a n) core₁ work₁ e h =
-    ap (λ (x : List Work). outcome s surface declarations rows d x work st core) e ∙ h
+pub top-fits : (st st' : State) → st' ≡ below st → st' .works ≡ st .works - 1
+top-fits st st' q = ap (λ (x : State). x .works) q
+
+-- The item on top of the others.
+pub top-item : (w : List ℕ) (st st' : State) (r item : Work) → 0 < st .works → st' ≡ below st → works-in w (st' .works + 1) ≡ r ∷ works-in w (st' .works) → r ≡ item
+    → works-in w (st .works) ≡ item ∷ works-in w (st' .works)
+top-item w st st' r item h q e i =
+    let x = top-fits st st' q in
+    ap (works-in w) (let z : st .works ≡ st' .works + 1 = omega arith in z) ∙ e ∙ ap (λ (x : Work). x ∷ works-in w (st' .works)) i
+
+pub top-room : (works items : List Work) (st st' : State) → works ≡ items → st' ≡ below st → Room works (st .values) (st .locals) → Room items (st' .values) (st' .locals)
+top-room works items st st' e q r =
+    subst (λ (y : State). Room items (y .values) (y .locals)) (sym q) (subst (λ (x : List Work). Room x (st .values) (st .locals)) e r)
+
+module _ (s surface declarations : List ℕ) (rows d : ℕ) (core work : List ℕ) (st st' : State) (q : st' ≡ below st) where
+  same-outcome : (items : List Work) → outcome s surface declarations rows d items work st core ≡ outcome s surface declarations rows d items work st' core
+  same-outcome items = ap (λ (x : State). outcome s surface declarations rows d items work x core) (sym q)
+
+  pub top-stepped : (items : List Work) (step : Step) (core₁ work₁ : List ℕ) → works-in work (st .works) ≡ items → Stepped s surface declarations rows d items work st' core step core₁ work₁
+      → Stepped s surface declarations rows d (works-in work (st .works)) work st core step core₁ work₁
+  top-stepped items (Step.Go st₁) core₁ work₁ e h = record {
+    same = ap (λ (x : List Work). outcome s surface declarations rows d x work st core) e ∙ same-outcome items ∙ h .same;
+    less = subst (λ (x : List Work). weight (works-in work₁ (st₁ .works)) < weight x) (sym e) (h .less);
+    room = h .room;
+    fits = h .fits;
+  }
+  top-stepped items (Step.Unknown a n) core₁ work₁ e h =
+      ap (λ (x : List Work). outcome s surface declarations rows d x work st core) e ∙ same-outcome items ∙ h

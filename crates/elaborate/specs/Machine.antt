@@ -5,16 +5,16 @@ use mathlib.Core.Path.{_≡_}
 use mathlib.Core.List.{List, [], _∷_, _++_}
 use mathlib.Core.Bool.{Bool, true, false}
 use lib.ListN.{length, take, drop}
-use Rattle.terms.specs.Forms.{arity-of}
+use Rattle.terms.specs.Forms.{arity-of, holds-span}
 use Rattle.terms.specs.Label.{Name, part, Label}
 use Rattle.terms.specs.Resolution.{Core, kept, covers, is-unknown}
 use Rattle.terms.specs.Rows.{core-words}
 use Rattle.rows.specs.Places.{stored-at}
 use Rattle.scope.specs.Scope.{local-names, reference}
 use Rattle.scope.specs.Index.{Indexed}
-use Rattle.stacks.specs.Stacks.{works-in, values-in, WorkArea, ValuePushed}
+use Rattle.stacks.specs.Stacks.{works-in, values-in, WorkArea, WorkPushed, ValuePushed}
 use Rattle.stacks.specs.declared.Work.{Work}
-use Rattle.elaborate.specs.RowTerm.{Outcome, done, unknown-at, and-then, row-term}
+use Rattle.elaborate.specs.RowTerm.{row-word, six-at, Outcome, done, unknown-at, and-then, row-term}
 use Rattle.elaborate.specs.declared.State.{State}
 use Rattle.elaborate.specs.declared.Step.{Step}
 use Rattle.elaborate.specs.declared.TermDone.{TermDone}
@@ -79,6 +79,12 @@ pub record Inside (s surface declarations index work : List ℕ) (rows d : ℕ) 
   pub read : rows * 8 ≤ length surface
   pub few : d ≤ 4294967295
   pub indexed : Indexed s declarations d index
+
+-- The arguments of the form at row `id` are scheduled on top of its Build.
+pub record FormScheduled (surface : List ℕ) (k id left : ℕ) (st : State) (work : List ℕ) (st₁ : State) (work₁ : List ℕ) : Type 0 where
+  pub state : st₁ ≡ record { works = st₁ .works; values = st .values; locals = st .locals }
+  pub items : WorkPushed work work₁ (st₁ .works)
+      (scheduled k (row-word surface id 1) (row-word surface id 2) left 0 (take (arity-of k) (six-at surface id (holds-span k))) (Work.Build k id ∷ works-in work (st .works)))
 
 -- A row is stored, and its number is one more value.
 pub record RowDone (id : ℕ) (words : List ℕ) (st : State) (core work : List ℕ) (st₁ : State) (core₁ work₁ : List ℕ) : Type 0 where

@@ -1,17 +1,17 @@
 // Names become numbers: each core row is written at its surface row's number, with a var or a global for each reference.
 // The port of `elaborate_surface` and `elaborate_term` in surface/elaborate.rs. Document 01, "The core module".
 ghost use mathlib.Core.Path.{_≡_};
-ghost use mathlib.Core.List.{List, [], _∷_};
-ghost use Prim.Native.Nat.{_+_, _*_, _<_, _≤_};
+ghost use mathlib.Core.List.{List, [], _∷_, _++_};
+ghost use Prim.Native.Nat.{_+_, _-_, _*_, _<_, _≤_};
 ghost use lib.ListN.{length, take};
-ghost use Rattle.terms.specs.Forms.{arity-of, holds-span};
+ghost use Rattle.terms.specs.Forms.{arity-of};
 ghost use Rattle.terms.specs.Label.{Declaration};
 ghost use Rattle.terms.specs.Resolution.{covers, core-of};
 ghost use Rattle.scope.specs.Scope.{local-names, declared-names, reference};
 ghost use Rattle.scope.specs.Index.{Indexed};
-ghost use Rattle.stacks.specs.Stacks.{works-in, WorkArea, WorkPushed};
-ghost use Rattle.elaborate.specs.RowTerm.{row-word, six-at, row-term};
-ghost use Rattle.elaborate.specs.Machine.{Six, scheduled-one, scheduled, Room, Inside, RowDone, ReferenceDone, without-arguments, form-row, Stepped, Answered};
+ghost use Rattle.stacks.specs.Stacks.{names-room, values-room, works-room, works-in, WorkArea, WorkPushed, LocalPushed};
+ghost use Rattle.elaborate.specs.RowTerm.{six-at, row-term};
+ghost use Rattle.elaborate.specs.Machine.{Six, scheduled-one, scheduled, FormScheduled, Room, Inside, RowDone, ReferenceDone, without-arguments, form-row, Stepped, Answered};
 ghost use Rattle.elaborate.specs.Loadable.{Loadable, Elaborates};
 ghost use Rattle.elaborate.specs.Declarations.{Fitting, Whether, Blank, record-outcome, declaration-outcome, Declared};
 use scope::Referent;
@@ -22,6 +22,14 @@ use stacks::Work;
 const REF: u32 = 24;
 
 const POSTULATE: u32 = 1;
+
+// "7 more than 512 frames open in one term"
+const FORMS: u32 = 512;
+
+// How many words a row and a declaration record have.
+const ROW: usize = 8;
+
+const RECORD: usize = 5;
 
 // So many declarations are walked over sooner than an index is cleared.
 const FEW: usize = 16;
@@ -36,6 +44,16 @@ struct State {
 enum Step {
     Go(State),
     Unknown { start: u32, length: u32 },
+}
+
+// A row that is not there and a form too many, which no table that was read has, count as an unknown reference without a name.
+fn nameless() -> Step
+    ensures { λ r. ⌜ r ≡ Step.Unknown 0 0 ⌝ }
+{
+    Step::Unknown {
+        start: 0,
+        length: 0,
+    }
 }
 
 // A term is resolved, or this reference is unknown.
@@ -76,7 +94,7 @@ fn row_children(surface: &[u32], id: usize, span: bool) -> [u32; 6]
     requires { ⌜ id * 8 + 8 ≤ length (now surface) ⌝ }
     ensures { λ r. ⌜ r ≡ six-at (now (surface .entry)) id span ⌝ }
 {
-    let a = id * 8;
+    let a = id * ROW;
     if span {
         return [surface[a + 3], surface[a + 4], 0, 0, 0, 0];
     }
@@ -100,7 +118,7 @@ fn schedule_one(
     row: u32,
     left: u32,
 ) -> usize
-    requires { ⌜ (t + 3 ≤ 3754) × WorkArea (now work) ⌝ }
+    requires { ⌜ (t + 3 ≤ works-room) × WorkArea (now work) ⌝ }
     ensures { λ r. ⌜ (r ≤ t + 3) × WorkPushed (now (work .entry)) (now (work .exit)) r (scheduled-one covered start length left row (works-in (now (work .entry)) t)) ⌝ }
 {
     if covered {
@@ -126,7 +144,7 @@ fn schedule(
     n: usize,
     left: u32,
 ) -> usize
-    requires { ⌜ (n ≤ 6) × Six children × (t + 18 ≤ 3754) × WorkArea (now work) ⌝ }
+    requires { ⌜ (n ≤ 6) × Six children × (t + 18 ≤ works-room) × WorkArea (now work) ⌝ }
     ensures { λ r. ⌜ WorkPushed (now (work .entry)) (now (work .exit)) r (scheduled kind start length left 0 (take n children) (works-in (now (work .entry)) t)) ⌝ }
 {
     let mut i = n;
@@ -145,28 +163,35 @@ fn schedule(
 fn schedule_form(
     surface: &[u32],
     work: &mut [u32],
-    t: usize,
+    st: State,
     kind: u32,
     id: u32,
     left: u32,
-) -> usize
-    requires { ⌜ (id * 8 + 8 ≤ length (now surface)) × (t + 19 ≤ 3754) × WorkArea (now work) ⌝ }
-    ensures { λ r. ⌜ WorkPushed (now (work .entry)) (now (work .exit)) r (scheduled kind (row-word (now (surface .entry)) id 1) (row-word (now (surface .entry)) id 2) left 0 (take (arity-of kind) (six-at (now (surface .entry)) id (holds-span kind))) (Work.Build kind id ∷ works-in (now (work .entry)) t)) ⌝ }
+) -> State
+    requires { ⌜ (id * 8 + 8 ≤ length (now surface)) × (st .works + 19 ≤ works-room) × WorkArea (now work) ⌝ }
+    ensures { λ r. ⌜ FormScheduled (now (surface .entry)) kind id left st (now (work .entry)) r (now (work .exit)) ⌝ }
 {
     let k = id as usize;
-    let a = k * 8;
-    let start = surface[a + 1];
-    let length = surface[a + 2];
+    let t = st.works;
+    let v = st.values;
+    let l = st.locals;
+    let start = surface[k * ROW + 1];
+    let length = surface[k * ROW + 2];
     let n = rows::arity(kind) as usize;
     let span = rows::holds_span(kind);
     let children = row_children(surface, k, span);
     stacks::push_work(work, t, Work::Build { kind, row: id });
-    schedule(work, t + 1, kind, start, length, children, n, left)
+    let top = schedule(work, t + 1, kind, start, length, children, n, left);
+    State {
+        works: top,
+        values: v,
+        locals: l,
+    }
 }
 
 // A core row is stored at its own number, which becomes one more value.
 fn finish(core: &mut [u32], work: &mut [u32], st: State, id: u32, row: [u32; 8]) -> State
-    requires { ⌜ (st .values < 3072) × WorkArea (now work) ⌝ }
+    requires { ⌜ (st .values < values-room) × WorkArea (now work) ⌝ }
     ensures { λ r. ⌜ RowDone id row st (now (core .entry)) (now (work .entry)) r (now (core .exit)) (now (work .exit)) ⌝ }
 {
     let k = id as usize;
@@ -195,7 +220,7 @@ fn eval_reference(
     start: u32,
     length: u32,
 ) -> Step
-    requires { ⌜ (st .locals ≤ 512) × (st .values < 3072) × (d ≤ 4294967295) × WorkArea (now work) × Indexed (now s) (now declarations) d (now index) ⌝ }
+    requires { ⌜ (st .locals ≤ names-room) × (st .values < values-room) × (d ≤ 4294967295) × WorkArea (now work) × Indexed (now s) (now declarations) d (now index) ⌝ }
     ensures { λ r. ⌜ ReferenceDone (core-of (now (s .entry)) (local-names (now (s .entry)) (now (work .entry)) (st .locals)) (declared-names (now (s .entry)) (now (declarations .entry)) 0 d) (reference start length)) start length id st (now (core .entry)) (now (work .entry)) r (now (core .exit)) (now (work .exit)) ⌝ }
 {
     let l = st.locals;
@@ -213,6 +238,23 @@ fn eval_reference(
     }
 }
 
+// The row of a form with arguments, of which those that are not there are 0.
+fn form_row(kind: u32, args: [u32; 6]) -> [u32; 8]
+    requires { ⌜ Six args ⌝ }
+    ensures { λ r. ⌜ r ≡ kind ∷ args ++ (0 ∷ []) ⌝ }
+{
+    [
+        kind,
+        args[0],
+        args[1],
+        args[2],
+        args[3],
+        args[4],
+        args[5],
+        0,
+    ]
+}
+
 // The row of a form whose arguments' rows are the values on top.
 fn build_term(core: &mut [u32], work: &mut [u32], st: State, kind: u32, id: u32) -> State
     requires { ⌜ (arity-of kind ≤ st .values) × (st .values ≤ arity-of kind + 2560) × WorkArea (now work) ⌝ }
@@ -223,7 +265,7 @@ fn build_term(core: &mut [u32], work: &mut [u32], st: State, kind: u32, id: u32)
     let n = rows::arity(kind);
     let v = st.values - n as usize;
     let values = stacks::pop_values(work, v, n as usize);
-    let row = rows::core_row(kind, 0, 0, values, n);
+    let row = form_row(kind, values);
     let below = State {
         works: t,
         values: v,
@@ -232,8 +274,7 @@ fn build_term(core: &mut [u32], work: &mut [u32], st: State, kind: u32, id: u32)
     finish(core, work, below, id, row)
 }
 
-// A row is to be resolved, in which `left` forms may still be opened. A row that is not there and a form too many, which no table that was
-// read has, count as an unknown reference without a name.
+// A row is to be resolved, in which `left` forms may still be opened.
 fn eval(
     s: &[u8],
     surface: &[u32],
@@ -253,38 +294,62 @@ fn eval(
 {
     let k = id as usize;
     if rows <= k {
-        return Step::Unknown {
-            start: 0,
-            length: 0,
-        };
+        return nameless();
     }
-    let a = k * 8;
-    let kind = surface[a];
-    let start = surface[a + 1];
-    let length = surface[a + 2];
+    let kind = surface[k * ROW];
+    let start = surface[k * ROW + 1];
+    let length = surface[k * ROW + 2];
     if kind == REF {
         return eval_reference(s, declarations, core, work, index, st, id, d, start, length);
     }
-    let n = rows::arity(kind);
-    if n == 0 {
+    if rows::arity(kind) == 0 {
         let row = rows::core_row(kind, start, length, [0, 0, 0, 0, 0, 0], 0);
         return Step::Go(finish(core, work, st, id, row));
     }
     if left == 0 {
-        return Step::Unknown {
-            start: 0,
-            length: 0,
-        };
+        return nameless();
     }
+    Step::Go(schedule_form(surface, work, st, kind, id, left - 1))
+}
+
+// A name comes into scope.
+fn enter_binder(work: &mut [u32], st: State, start: u32, length: u32) -> State
+    requires { ⌜ (st .locals < names-room) × WorkArea (now work) ⌝ }
+    ensures { λ r. ⌜ (r ≡ record { works = st .works; values = st .values; locals = st .locals + 1 }) × LocalPushed (now (work .entry)) (now (work .exit)) (st .locals) start length ⌝ }
+{
     let t = st.works;
     let v = st.values;
     let l = st.locals;
-    let top = schedule_form(surface, work, t, kind, id, left - 1);
-    Step::Go(State {
-        works: top,
+    stacks::push_local(work, l, start, length);
+    State {
+        works: t,
         values: v,
-        locals: l,
-    })
+        locals: l + 1,
+    }
+}
+
+// The innermost name goes out of scope.
+fn leave_binder(st: State) -> State
+    requires { ⌜ 0 < st .locals ⌝ }
+    ensures { λ r. ⌜ r ≡ record { works = st .works; values = st .values; locals = st .locals - 1 } ⌝ }
+{
+    State {
+        works: st.works,
+        values: st.values,
+        locals: st.locals - 1,
+    }
+}
+
+// Without the work item on top.
+fn popped(st: State) -> State
+    requires { ⌜ 0 < st .works ⌝ }
+    ensures { λ r. ⌜ r ≡ record { works = st .works - 1; values = st .values; locals = st .locals } ⌝ }
+{
+    State {
+        works: st.works - 1,
+        values: st.values,
+        locals: st.locals,
+    }
 }
 
 // The work item on top.
@@ -301,17 +366,11 @@ fn work_step(
 ) -> Step
     requires { ⌜ Inside (now s) (now surface) (now declarations) (now index) (now work) rows d ⌝ }
     requires { ⌜ Room (works-in (now work) (st .works)) (st .values) (st .locals) ⌝ }
-    requires { ⌜ (0 < st .works) × (st .works ≤ 3754) ⌝ }
+    requires { ⌜ (0 < st .works) × (st .works ≤ works-room) ⌝ }
     ensures { λ r. ⌜ Stepped (now (s .entry)) (now (surface .entry)) (now (declarations .entry)) rows d (works-in (now (work .entry)) (st .works)) (now (work .entry)) st (now (core .entry)) r (now (core .exit)) (now (work .exit)) ⌝ }
 {
-    let t = st.works - 1;
-    let v = st.values;
-    let l = st.locals;
-    let below = State {
-        works: t,
-        values: v,
-        locals: l,
-    };
+    let below = popped(st);
+    let t = below.works;
     let item = stacks::pop_work(work, t);
     match item {
         Work::Eval { row, left } => eval(
@@ -327,20 +386,26 @@ fn work_step(
             rows,
             d,
         ),
-        Work::PushLocal { start, length } => {
-            stacks::push_local(work, l, start, length);
-            Step::Go(State {
-                works: t,
-                values: v,
-                locals: l + 1,
-            })
-        }
-        Work::PopLocal => Step::Go(State {
-            works: t,
-            values: v,
-            locals: l - 1,
-        }),
+        Work::PushLocal { start, length } => Step::Go(enter_binder(work, below, start, length)),
+        Work::PopLocal => Step::Go(leave_binder(below)),
         Work::Build { kind, row } => Step::Go(build_term(core, work, below, kind, row)),
+    }
+}
+
+// The term at row `root` is the one work item.
+fn begin_term(work: &mut [u32], root: u32) -> State
+    requires { ⌜ WorkArea (now work) ⌝ }
+    ensures { λ r. ⌜ (r ≡ record { works = 1; values = 0; locals = 0 }) × WorkPushed (now (work .entry)) (now (work .exit)) (0 + 1) (Work.Eval root 512 ∷ works-in (now (work .entry)) 0) ⌝ }
+{
+    let item = Work::Eval {
+        row: root,
+        left: FORMS,
+    };
+    stacks::push_work(work, 0, item);
+    State {
+        works: 1,
+        values: 0,
+        locals: 0,
     }
 }
 
@@ -359,19 +424,7 @@ fn elaborate_term(
     requires { ⌜ Inside (now s) (now surface) (now declarations) (now index) (now work) rows d ⌝ }
     ensures { λ r. ⌜ Answered (row-term (now (s .entry)) (now (surface .entry)) (now (declarations .entry)) rows d 512 root [] (now (core .entry))) r (now (core .exit)) ⌝ }
 {
-    stacks::push_work(
-        work,
-        0,
-        Work::Eval {
-            row: root,
-            left: 512,
-        },
-    );
-    let mut st = State {
-        works: 1,
-        values: 0,
-        locals: 0,
-    };
+    let mut st = begin_term(work, root);
     loop {
         let t = st.works;
         if t == 0 {
@@ -404,9 +457,9 @@ fn elaborate_parts(
     requires { ⌜ d * 5 + 5 ≤ length (now declarations) ⌝ }
     ensures { λ r. ⌜ Answered (record-outcome (now (s .entry)) (now (surface .entry)) (now (declarations .entry)) rows d (now (core .entry))) r (now (core .exit)) ⌝ }
 {
-    let kind = declarations[d * 5];
-    let ty = declarations[d * 5 + 3];
-    let body = declarations[d * 5 + 4];
+    let kind = declarations[d * RECORD];
+    let ty = declarations[d * RECORD + 3];
+    let body = declarations[d * RECORD + 4];
     let t = elaborate_term(s, surface, declarations, core, work, index, ty, rows, d);
     match t {
         TermDone::Unknown { start, length } => TermDone::Unknown { start, length },
@@ -435,8 +488,8 @@ fn declaration_step(
     ensures { λ r. ⌜ Declared (declaration-outcome (now (s .entry)) (now (surface .entry)) (now (declarations .entry)) rows d (now (core .entry))) r (now (core .exit)) ⌝ }
     ensures { λ r. ⌜ (r ≡ Elaborated.Done → Indexed (now (s .entry)) (now (declarations .entry)) (d + 1) (now (index .exit))) ⌝ }
 {
-    let start = declarations[d * 5 + 1];
-    let length = declarations[d * 5 + 2];
+    let start = declarations[d * RECORD + 1];
+    let length = declarations[d * RECORD + 2];
     let f = scope::find_indexed(s, declarations, index, d, start, length);
     match f {
         Slot::Held(_) => refused(4, start, length),
@@ -457,13 +510,13 @@ fn declaration_step(
 fn fitting(surface: &[u32], declarations: &[u32], work: &[u32], rows: usize, count: usize) -> bool
     ensures { λ r. ⌜ Whether r (Fitting (now (surface .entry)) (now (declarations .entry)) (now (work .entry)) rows count) ⌝ }
 {
-    if work.len() < 16384 {
+    if work.len() < stacks::AREA {
         return false;
     }
-    if surface.len() / 8 < rows {
+    if surface.len() / ROW < rows {
         return false;
     }
-    if declarations.len() / 5 < count {
+    if declarations.len() / RECORD < count {
         return false;
     }
     count <= 4294967296

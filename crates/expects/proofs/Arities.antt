@@ -8,6 +8,8 @@ use lib.Dec.{eqb, leb}
 use borrow.Author.Tests.{eqb-true, leb-true}
 use Rattle.words.specs.Words.{same-bytes}
 use Rattle.terms.specs.Forms.{Shape, alone, with-name, with-numeral, binding, plain, Form, edition-0-1, forms, form-of-word, form-of-kind, arity-of}
+use Rattle.expects.specs.declared.Format.{Format}
+use Rattle.expects.specs.Formats.{edition}
 
 -- A term without arguments, and a frame.
 abbrev pub ArityOfShape : Shape → ℕ → Type 0
@@ -60,8 +62,12 @@ all-forms-fit : all-fit forms ≡ true
 unfolding forms arity-of form-of-kind
 all-forms-fit = refl
 
-pub fitting : (w : List ℕ) (f : Form) → form-of-word w (edition-0-1 .forms) ≡ some f → Fitting f
+-- The forms of every format.
+format-fits : (m : Format) → all-fit (edition m .forms) ≡ true
 unfolding edition-0-1
-fitting w f e =
-    let t = both (eqb (arity-of (f .kind)) (f .arity)) (arity-test (f .shape) (f .arity)) (found w f forms all-forms-fit e) in
+format-fits Format.Surface01 = all-forms-fit
+
+pub fitting : (m : Format) (w : List ℕ) (f : Form) → form-of-word w (edition m .forms) ≡ some f → Fitting f
+fitting m w f e =
+    let t = both (eqb (arity-of (f .kind)) (f .arity)) (arity-test (f .shape) (f .arity)) (found w f (edition m .forms) (format-fits m) e) in
     record { arity-is = eqb-true (arity-of (f .kind)) (f .arity) (t .0); by-shape = tested (f .shape) (f .arity) (t .1) }

@@ -7,13 +7,13 @@ use native.Mathlib.Omega.{arith}
 use lib.ListN.{length}
 use Rattle.token.specs.declared.TokenKind.{TokenKind}
 use Rattle.token.specs.declared.Token.{Token}
-use Rattle.terms.specs.Forms.{Shape, alone, with-name, with-numeral, binding, plain, Form, Edition, edition-0-1, form-of-word, arity-of}
+use Rattle.terms.specs.Forms.{Shape, alone, with-name, with-numeral, binding, plain, Form, Edition, form-of-word, arity-of}
 use Rattle.terms.specs.Label.{Label}
 use Rattle.surface.specs.Reader.{Position, done, Reader}
 use Rattle.surface.specs.Reading.{Beginning, leaf, frame, token, closing, atom, natural, name, bare, tagged, known, beginning-on, beginning}
 use Rattle.surface.specs.Text.{text}
-use Rattle.expects.specs.declared.Begun.{Begun}
-use Rattle.expects.specs.Expects.{position-at, begun, Begins}
+use Rattle.expects.specs.declared.Format.{Format}
+use Rattle.expects.specs.Formats.{edition}
 use Rattle.expects.proofs.Gives.{Gives, given, gives-after}
 use Rattle.expects.proofs.Arities.{ArityOfShape, Fitting, fitting}
 use Rattle.expects.proofs.Ahead.{Ahead, TokenAhead, AnyToken, token-any, not-end, closing-ahead, atom-ahead, natural-ahead, name-ahead}
@@ -85,18 +85,9 @@ module _ (E : Edition) (s : List ℕ) (p : Position) where
     unfolding beginning
     beginning-gives = gives-after (AnyToken s p) (BeginningAhead s p) (token s p) _ (token-any s p) (λ t q a. on-ahead t (t .kind) q a refl)
 
-module _ (s : List ℕ) where
-  pub beginning-ahead : (p : Position) → Gives (BeginningAhead s p) (beginning edition-0-1 s p)
-  beginning-ahead p = beginning-gives edition-0-1 s p fitting
+module _ (f : Format) (s : List ℕ) where
+  pub beginning-ahead : (p : Position) → Gives (BeginningAhead s p) (beginning (edition f) s p)
+  beginning-ahead p = beginning-gives (edition f) s p (fitting f)
 
-  pub beginning-got : (p : Position) (b : Beginning) (q : Position) → beginning edition-0-1 s p ≡ done b q → BeginningAhead s p b q
+  pub beginning-got : (p : Position) (b : Beginning) (q : Position) → beginning (edition f) s p ≡ done b q → BeginningAhead s p b q
   beginning-got p b q e = given (BeginningAhead s p) (beginning-ahead p) e
-
-  -- The same, of what `begin_term` gives.
-  module _ (at : ℕ) (r : Begun) (h : Begins s at r) (small : length s ≤ 65535) where
-    pub leaf-begun : (l : Label) (next : ℕ) → r ≡ Begun.Leaf l next → (n : ℕ) → BeginningAhead s (position-at at n) (leaf l) (position-at next n)
-    leaf-begun l next e n = beginning-got (position-at at n) (leaf l) (position-at next n) (h small n ∙ ap (begun n) e)
-
-    pub frame-begun : (l : Label) (arity next : ℕ) → r ≡ Begun.Frame l arity next → (n : ℕ)
-        → BeginningAhead s (position-at at n) (frame l arity) (position-at next n)
-    frame-begun l arity next e n = beginning-got (position-at at n) (frame l arity) (position-at next n) (h small n ∙ ap (begun n) e)

@@ -12,6 +12,7 @@ use Rattle.surface.specs.Reader.{Position}
 use Rattle.surface.specs.Reading.{opening, closing, word, natural, name, edition-of, supported, surface-line, module-line, head}
 use Rattle.surface.specs.Text.{text}
 use Rattle.expects.specs.declared.HeadRead.{HeadRead}
+use Rattle.expects.specs.declared.Format.{Format}
 use Rattle.expects.specs.Expects.{position-at, head-read, Heads}
 use Rattle.expects.specs.Tokens.{Inside}
 use Rattle.expects.proofs.Gives.{Gives, given, gives-after}
@@ -54,6 +55,6 @@ head-ahead s p =
     (λ x r b. record { ahead = omega arith; name = b .name }))
 
 -- The same, of what `read_head` gives.
-pub head-got : (s : List ℕ) (r : HeadRead) → Heads s r → (t : Token) (next : ℕ) → r ≡ HeadRead.Name t next → (n : ℕ)
+pub head-got : (s : List ℕ) (r : HeadRead) → Heads s r → (f : Format) (t : Token) (next : ℕ) → r ≡ HeadRead.Name f t next → (n : ℕ)
     → HeadAhead s (position-at 0 n) t (position-at next n)
-head-got s r h t next e n = let p = position-at 0 n in given (λ i. HeadAhead s p (i .name)) (head-ahead s p) (h n ∙ ap (head-read n) e)
+head-got s r h f t next e n = let p = position-at 0 n in given (λ i. HeadAhead s p (i .name)) (head-ahead s p) (h n ∙ ap (head-read n) e)

@@ -39,6 +39,10 @@ same-value f g i (suc n) k e l h =
       | no q ↦ same-value f g (suc i) n k (cc) (omega arith) (omega arith)
     ]
 
+-- Up to n, and not n itself.
+pub below : (n k : ℕ) → k < suc n → (k ≡ n → ⊥) → k < n
+below n k l h = omega arith
+
 -- A word that is not reserved is none of the reserved ones.
 unlike : (w v : List ℕ) → word-index w ≡ 0 → reserved v ≡ true → same-bytes w v ≡ false
 unlike w v z r = ne-same w v (λ e. reserved-index v r (ap word-index (sym e) ∙ z))
@@ -83,13 +87,7 @@ declaration-other w z =
 pub kind-by-index : (w : List ℕ) (k : ℕ) → k ≡ word-index w → declaration-kind (word k) ≡ declaration-kind w
 kind-by-index w k e = by-index declaration-kind (λ v z. declaration-other v z ∙ sym (declaration-other [] no-index)) w k e
 
--- The shapes and arities of the words from 7 on as octal digits of a number.
-module _ (n : ℕ) where
-  abbrev digit : ℕ → ℕ
-  digit k = n / 2 ^ (3 * (k - 7)) % 8
-
-  pub shape-digit : (k : ℕ) → values digit 7 21 ≡ values (λ j. form-at j .shape) 7 21 → 7 ≤ k → k < 28 → digit k ≡ form-at k .shape
-  shape-digit k e l h = same-value digit (λ j. form-at j .shape) 7 21 k e l h
-
-  pub arity-digit : (k : ℕ) → values digit 7 21 ≡ values (λ j. form-at j .arity) 7 21 → 7 ≤ k → k < 28 → digit k ≡ form-at k .arity
-  arity-digit k e l h = same-value digit (λ j. form-at j .arity) 7 21 k e l h
+-- The arities of the words from 7 on as octal digits of a number.
+pub arity-digit : (n k : ℕ) → values (λ j. n / 2 ^ (3 * (j - 7)) % 8) 7 21 ≡ values (λ j. form-at j .arity) 7 21 → 7 ≤ k → k < 28
+    → n / 2 ^ (3 * (k - 7)) % 8 ≡ form-at k .arity
+arity-digit n k e l h = same-value (λ j. n / 2 ^ (3 * (j - 7)) % 8) (λ j. form-at j .arity) 7 21 k e l h

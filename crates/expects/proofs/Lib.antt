@@ -4,6 +4,7 @@ mod Arities
 pub mod Beginnings
 pub mod Heads
 mod Tokens
+mod Formats
 mod Indices
 mod Shapes
 mod Terms

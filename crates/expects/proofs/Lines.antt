@@ -1,6 +1,6 @@
 -- What the lines of the head give, by what their parts give. Assumes nothing.
 use Prim.Native.Nat.{ℕ}
-use mathlib.Core.Path.{_≡_, refl, sym, _∙_}
+use mathlib.Core.Path.{_≡_, refl, sym, _∙_, ap}
 use mathlib.Core.Bool.{true, false}
 use mathlib.Core.List.{List}
 use mathlib.Core.Option.{none, some}
@@ -9,13 +9,14 @@ use Rattle.token.specs.declared.Refusal.{Refusal}
 use Rattle.token.specs.declared.Lexed.{Lexed}
 use Rattle.token.specs.declared.Lexed.the-variants.{Got, Refused}
 use Rattle.words.specs.Words.{ascii}
-use Rattle.terms.specs.Forms.{edition-0-1}
 use Rattle.surface.specs.Reader.{Position, Result, done, refused, Reader, after, _>>=_, pure, nowhere}
 use Rattle.surface.specs.Reading.{opening, closing, word, natural, name, edition-of, supported, surface-line, module-line, head}
 use Rattle.surface.specs.Text.{text}
 use Rattle.expects.specs.declared.HeadRead.{HeadRead}
-use Rattle.expects.specs.Expects.{position-at, Reads, head-read, Heads}
-use Rattle.expects.specs.Lines.{tag, version-0-1, name-read, ClosesVersion, SurfaceLine, ModuleLine}
+use Rattle.expects.specs.declared.Format.{Format}
+use Rattle.expects.specs.Formats.{edition}
+use Rattle.expects.specs.Expects.{position-at, Reads, Heads}
+use Rattle.expects.specs.Lines.{tag, version-0-1, named, ClosesVersion, SurfaceLine, ModuleLine}
 
 after-after : {A B C : Type 0} (x : Result A) (f : A → Reader B) (g : B → Reader C) → after (after x f) g ≡ after x (λ a q. after (f a q) g)
 after-after (done a q) f g = refl
@@ -35,7 +36,7 @@ module _ (s w : List ℕ) (at : ℕ) (x : Lexed) (h : Reads s (opening s) at x) 
   unfolding tag
   tag-got o e y g = λ n. rw (h n, e) (g n)
 
-edition-is : (s : List ℕ) (major minor : Token) → version-0-1 s major minor ≡ true → edition-of (text s major) (text s minor) ≡ some edition-0-1
+edition-is : (s : List ℕ) (major minor : Token) → version-0-1 s major minor ≡ true → edition-of (text s major) (text s minor) ≡ some (edition Format.Surface01)
 unfolding edition-of
 edition-is s major minor v = rw (v, edition-of)
 
@@ -76,34 +77,30 @@ module _ (s : List ℕ) (x : Lexed) (h : Reads s (tag s (ascii "surface")) 0 x) 
       unfolding surface-line
       surface-got minor j r v = λ n. tag-first s (ascii "surface") _ (position-at 0 n) ∙ rw (h n, e, g n, i, f n, j) (v n)
 
-module _ (s : List ℕ) (at : ℕ) (x : Lexed) (h : Reads s (tag s (ascii "module")) at x) where
-  pub module-refused : (r : Refusal) → x ≡ Refused r → ModuleLine s at (HeadRead.Refused r)
+module _ (s : List ℕ) (f : Format) (at : ℕ) (x : Lexed) (h : Reads s (tag s (ascii "module")) at x) where
+  pub module-refused : (r : Refusal) → x ≡ Refused r → ModuleLine s f at (HeadRead.Refused r)
   unfolding module-line
-  module-refused r e = λ n. tag-first s (ascii "module") _ (position-at at n) ∙ rw (h n, e)
+  module-refused r e = λ n. ap (named f) (tag-first s (ascii "module") _ (position-at at n)) ∙ rw (h n, e)
 
-  module _ (w : Token) (e : x ≡ Got w) (y : Lexed) (g : Reads s (name edition-0-1 s) (w .end) y) where
-    pub name-refused : (r : Refusal) → y ≡ Refused r → ModuleLine s at (HeadRead.Refused r)
+  module _ (w : Token) (e : x ≡ Got w) (y : Lexed) (g : Reads s (name (edition f) s) (w .end) y) where
+    pub name-refused : (r : Refusal) → y ≡ Refused r → ModuleLine s f at (HeadRead.Refused r)
     unfolding module-line
-    name-refused r i = λ n. tag-first s (ascii "module") _ (position-at at n) ∙ rw (h n, e, g n, i)
+    name-refused r i = λ n. ap (named f) (tag-first s (ascii "module") _ (position-at at n)) ∙ rw (h n, e, g n, i)
 
-    module _ (t : Token) (i : y ≡ Got t) (z : Lexed) (f : Reads s (closing s) (t .end) z) where
-      pub close-refused : (r : Refusal) → z ≡ Refused r → ModuleLine s at (HeadRead.Refused r)
+    module _ (t : Token) (i : y ≡ Got t) (z : Lexed) (k : Reads s (closing s) (t .end) z) where
+      pub close-refused : (r : Refusal) → z ≡ Refused r → ModuleLine s f at (HeadRead.Refused r)
       unfolding module-line
-      close-refused r j = λ n. tag-first s (ascii "module") _ (position-at at n) ∙ rw (h n, e, g n, i, f n, j)
+      close-refused r j = λ n. ap (named f) (tag-first s (ascii "module") _ (position-at at n)) ∙ rw (h n, e, g n, i, k n, j)
 
-      pub module-got : (c : Token) → z ≡ Got c → ModuleLine s at (HeadRead.Name t (c .end))
+      pub module-got : (c : Token) → z ≡ Got c → ModuleLine s f at (HeadRead.Name f t (c .end))
       unfolding module-line
-      module-got c j = λ n. tag-first s (ascii "module") _ (position-at at n) ∙ rw (h n, e, g n, i, f n, j)
-
-named : (n : ℕ) (r : HeadRead) → after (name-read n r) (λ t. pure (record { edition = edition-0-1; name = t })) ≡ head-read n r
-named n (HeadRead.Name t next) = refl
-named n (HeadRead.Refused r) = refl
+      module-got c j = λ n. ap (named f) (tag-first s (ascii "module") _ (position-at at n)) ∙ rw (h n, e, g n, i, k n, j)
 
 module _ (s : List ℕ) (x : Lexed) (h : SurfaceLine s x) where
   pub head-refused : (r : Refusal) → x ≡ Refused r → Heads s (HeadRead.Refused r)
   unfolding head
   head-refused r e = λ n. rw (h n, e)
 
-  pub head-got : (c : Token) → x ≡ Got c → (r : HeadRead) → ModuleLine s (c .end) r → Heads s r
+  pub head-got : (c : Token) → x ≡ Got c → (r : HeadRead) → ModuleLine s Format.Surface01 (c .end) r → Heads s r
   unfolding head
-  head-got c e r m = λ n. rw (h n, e, m n) (named n r)
+  head-got c e r m = λ n. rw (h n, e) (m n)

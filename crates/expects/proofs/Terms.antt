@@ -11,7 +11,7 @@ use Rattle.token.specs.declared.Token.{Token}
 use Rattle.token.specs.declared.Refusal.{Refusal}
 use Rattle.token.specs.declared.Lexed.{Lexed}
 use Rattle.token.specs.declared.Lexed.the-variants.{Got, Refused}
-use Rattle.terms.specs.Forms.{Shape, alone, with-name, with-numeral, binding, plain, Form, edition-0-1, forms, form-of-word}
+use Rattle.terms.specs.Forms.{Shape, alone, with-name, with-numeral, binding, plain, Form, Edition, form-of-word}
 use Rattle.terms.specs.Label.{Label}
 use Rattle.surface.specs.Reader.{Position, refused, at-token}
 use Rattle.surface.specs.Reading.{token, closing, atom, natural, name, bare, tagged, known, beginning-on, beginning}
@@ -37,68 +37,68 @@ module _ (s : List ℕ) (kind offset : ℕ) (x : Lexed) where
     pub leaf-got : (c : Token) → y ≡ Got c → Inside (length s) t → (l : Label) → LabelWith kind t offset l → ClosesLeaf s kind offset x (Begun.Leaf l (c .end))
     leaf-got c i a l f = λ small within n. rw (e, h n, i, f (omega arith) (omega arith))
 
-bare-other : (s : List ℕ) (t : Token) (f : Form) (sh : Shape) (p : Position) → (shape-number sh ≡ 1 → ⊥) → bare edition-0-1 s t f sh p ≡ refused (at-token 1 t)
+bare-other : (E : Edition) (s : List ℕ) (t : Token) (f : Form) (sh : Shape) (p : Position) → (shape-number sh ≡ 1 → ⊥) → bare E s t f sh p ≡ refused (at-token 1 t)
 unfolding bare
-bare-other s t f alone p n = absurd (n refl)
-bare-other s t f with-name p n = refl
-bare-other s t f with-numeral p n = refl
-bare-other s t f binding p n = refl
-bare-other s t f plain p n = refl
+bare-other E s t f alone p n = absurd (n refl)
+bare-other E s t f with-name p n = refl
+bare-other E s t f with-numeral p n = refl
+bare-other E s t f binding p n = refl
+bare-other E s t f plain p n = refl
 
 -- A word t that stands without a parenthesis, of a form that f stands for.
-module _ (s : List ℕ) (t : Token) (f : FormOfWord) (e : f ≡ form-numbers (form-of-word (text s t) forms)) where
-  pub bare-leaf : f .shape ≡ 1 → (l : Label) → LabelAlone (f .kind) (t .start) l → BeginsOn s t TokenKind.Atom (Begun.Leaf l (t .end))
-  unfolding beginning-on known edition-0-1 bare
+module _ (E : Edition) (s : List ℕ) (t : Token) (f : FormOfWord) (e : f ≡ form-numbers (form-of-word (text s t) (E .forms))) where
+  pub bare-leaf : f .shape ≡ 1 → (l : Label) → LabelAlone (f .kind) (t .start) l → BeginsOn E s t TokenKind.Atom (Begun.Leaf l (t .end))
+  unfolding beginning-on known bare
   bare-leaf q l a =
-      let i = form-is (form-of-word (text s t) forms) f alone e q in
+      let i = form-is (form-of-word (text s t) (E .forms)) f alone e q in
       λ small inside n. rw (i .is, i .shape, i .kind, a (omega arith))
 
-  pub bare-refused : (f .shape ≡ 1 → ⊥) → (r : Refusal) → r ≡ at-token 1 t → BeginsOn s t TokenKind.Atom (Begun.Refused r)
-  unfolding beginning-on known edition-0-1
-  bare-refused q r i = λ small inside n. by (form-of-word (text s t) forms) e (position-at (t .end) n) ∙ ap refused (sym i)
+  pub bare-refused : (f .shape ≡ 1 → ⊥) → (r : Refusal) → r ≡ at-token 1 t → BeginsOn E s t TokenKind.Atom (Begun.Refused r)
+  unfolding beginning-on known
+  bare-refused q r i = λ small inside n. by (form-of-word (text s t) (E .forms)) e (position-at (t .end) n) ∙ ap refused (sym i)
     where
-      by : (o : Option Form) → f ≡ form-numbers o → (p : Position) → known edition-0-1 s (λ g. bare edition-0-1 s t g (g .shape)) t o p ≡ refused (at-token 1 t)
+      by : (o : Option Form) → f ≡ form-numbers o → (p : Position) → known E s (λ g. bare E s t g (g .shape)) t o p ≡ refused (at-token 1 t)
       by none d p = refl
-      by (some g) d p = bare-other s t g (g .shape) p (λ z. q (ap (λ x. x .shape) d ∙ z))
+      by (some g) d p = bare-other E s t g (g .shape) p (λ z. q (ap (λ x. x .shape) d ∙ z))
 
 -- A word w behind the parenthesis o, of a form that f stands for.
-module _ (s : List ℕ) (o w : Token) (f : FormOfWord) (e : f ≡ form-numbers (form-of-word (text s w) forms)) where
+module _ (E : Edition) (s : List ℕ) (o w : Token) (f : FormOfWord) (e : f ≡ form-numbers (form-of-word (text s w) (E .forms))) where
   -- With a name or a numeral x: a term that ends with it, or a frame.
   module _ (x : Lexed) where
-    pub name-leaf : f .shape ≡ 2 → Reads s (name edition-0-1 s) (w .end) x → (r : Begun) → ClosesLeaf s (f .kind) (o .start) x r → BeginsWith s o w r
-    unfolding known edition-0-1 tagged
+    pub name-leaf : f .shape ≡ 2 → Reads s (name E s) (w .end) x → (r : Begun) → ClosesLeaf s (f .kind) (o .start) x r → BeginsWith E s o w r
+    unfolding known tagged
     name-leaf q h r c =
-        let i = form-is (form-of-word (text s w) forms) f with-name e q in
+        let i = form-is (form-of-word (text s w) (E .forms)) f with-name e q in
         λ small inside n. rw (i .is, i .shape, h n, i .kind) (c small (omega arith) n)
 
-    pub numeral-leaf : f .shape ≡ 3 → Reads s (natural s) (w .end) x → (r : Begun) → ClosesLeaf s (f .kind) (o .start) x r → BeginsWith s o w r
-    unfolding known edition-0-1 tagged
+    pub numeral-leaf : f .shape ≡ 3 → Reads s (natural s) (w .end) x → (r : Begun) → ClosesLeaf s (f .kind) (o .start) x r → BeginsWith E s o w r
+    unfolding known tagged
     numeral-leaf q h r c =
-        let i = form-is (form-of-word (text s w) forms) f with-numeral e q in
+        let i = form-is (form-of-word (text s w) (E .forms)) f with-numeral e q in
         λ small inside n. rw (i .is, i .shape, h n, i .kind) (c small (omega arith) n)
 
-    module _ (q : f .shape ≡ 4) (h : Reads s (name edition-0-1 s) (w .end) x) where
-      pub binder-refused : (r : Refusal) → x ≡ Refused r → BeginsWith s o w (Begun.Refused r)
-      unfolding known edition-0-1 tagged
+    module _ (q : f .shape ≡ 4) (h : Reads s (name E s) (w .end) x) where
+      pub binder-refused : (r : Refusal) → x ≡ Refused r → BeginsWith E s o w (Begun.Refused r)
+      unfolding known tagged
       binder-refused r j =
-          let i = form-is (form-of-word (text s w) forms) f binding e q in
+          let i = form-is (form-of-word (text s w) (E .forms)) f binding e q in
           λ small inside n. rw (i .is, i .shape, h n, j)
 
-      pub binder-frame : (b : Token) → x ≡ Got b → (l : Label) → LabelWith (f .kind) b (o .start) l → BeginsWith s o w (Begun.Frame l (f .arity) (b .end))
-      unfolding known edition-0-1 tagged
+      pub binder-frame : (b : Token) → x ≡ Got b → (l : Label) → LabelWith (f .kind) b (o .start) l → BeginsWith E s o w (Begun.Frame l (f .arity) (b .end))
+      unfolding known tagged
       binder-frame b j l a =
-          let i = form-is (form-of-word (text s w) forms) f binding e q in
-          let k = inside-got (length s) x b (name-inside s (w .end) x edition-0-1 h) j in
+          let i = form-is (form-of-word (text s w) (E .forms)) f binding e q in
+          let k = inside-got (length s) x b (name-inside s (w .end) x E h) j in
           λ small inside n. rw (i .is, i .shape, h n, j, i .kind, i .arity, a (omega arith) (omega arith))
 
-  pub plain-frame : f .shape ≡ 5 → (l : Label) → LabelAlone (f .kind) (o .start) l → BeginsWith s o w (Begun.Frame l (f .arity) (w .end))
-  unfolding known edition-0-1 tagged
+  pub plain-frame : f .shape ≡ 5 → (l : Label) → LabelAlone (f .kind) (o .start) l → BeginsWith E s o w (Begun.Frame l (f .arity) (w .end))
+  unfolding known tagged
   plain-frame q l a =
-      let i = form-is (form-of-word (text s w) forms) f plain e q in
+      let i = form-is (form-of-word (text s w) (E .forms)) f plain e q in
       λ small inside n. rw (i .is, i .shape, i .kind, i .arity, a (omega arith))
 
   tagged-other : (g : Form) (sh : Shape) (p : Position) → let n = shape-number sh in (n ≡ 2 → ⊥) → (n ≡ 3 → ⊥) → (n ≡ 4 → ⊥) → (n ≡ 5 → ⊥)
-      → tagged edition-0-1 s o w g sh p ≡ refused (at-token 1 w)
+      → tagged E s o w g sh p ≡ refused (at-token 1 w)
   unfolding tagged
   tagged-other g alone p n2 n3 n4 n5 = refl
   tagged-other g with-name p n2 n3 n4 n5 = absurd (n2 refl)
@@ -107,42 +107,42 @@ module _ (s : List ℕ) (o w : Token) (f : FormOfWord) (e : f ≡ form-numbers (
   tagged-other g plain p n2 n3 n4 n5 = absurd (n5 refl)
 
   pub tag-refused : (f .shape ≡ 2 → ⊥) → (f .shape ≡ 3 → ⊥) → (f .shape ≡ 4 → ⊥) → (f .shape ≡ 5 → ⊥) → (r : Refusal) → r ≡ at-token 1 w
-      → BeginsWith s o w (Begun.Refused r)
-  unfolding known edition-0-1
-  tag-refused n2 n3 n4 n5 r i = λ small inside n. by (form-of-word (text s w) forms) e (position-at (w .end) n) ∙ ap refused (sym i)
+      → BeginsWith E s o w (Begun.Refused r)
+  unfolding known
+  tag-refused n2 n3 n4 n5 r i = λ small inside n. by (form-of-word (text s w) (E .forms)) e (position-at (w .end) n) ∙ ap refused (sym i)
     where
-      by : (c : Option Form) → f ≡ form-numbers c → (p : Position) → known edition-0-1 s (λ g. tagged edition-0-1 s o w g (g .shape)) w c p ≡ refused (at-token 1 w)
+      by : (c : Option Form) → f ≡ form-numbers c → (p : Position) → known E s (λ g. tagged E s o w g (g .shape)) w c p ≡ refused (at-token 1 w)
       by none d p = refl
       by (some g) d p = let q = ap (λ x. x .shape) d in tagged-other g (g .shape) p (λ z. n2 (q ∙ z)) (λ z. n3 (q ∙ z)) (λ z. n4 (q ∙ z)) (λ z. n5 (q ∙ z))
 
 -- Behind the parenthesis o, where x is read for an atom.
-module _ (s : List ℕ) (o : Token) (x : Lexed) (h : Reads s (atom s) (o .end) x) where
-  pub form-refused : (r : Refusal) → x ≡ Refused r → BeginsOn s o TokenKind.LParen (Begun.Refused r)
+module _ (E : Edition) (s : List ℕ) (o : Token) (x : Lexed) (h : Reads s (atom s) (o .end) x) where
+  pub form-refused : (r : Refusal) → x ≡ Refused r → BeginsOn E s o TokenKind.LParen (Begun.Refused r)
   unfolding beginning-on
   form-refused r e = λ small inside n. rw (h n, e)
 
-  pub form-got : (w : Token) → x ≡ Got w → (r : Begun) → BeginsWith s o w r → BeginsOn s o TokenKind.LParen r
+  pub form-got : (w : Token) → x ≡ Got w → (r : Begun) → BeginsWith E s o w r → BeginsOn E s o TokenKind.LParen r
   unfolding beginning-on
   form-got w e r b = λ small inside n. rw (h n, e) (b small inside n)
 
 -- A term, where x stands next.
-module _ (s : List ℕ) (at : ℕ) (x : Lexed) (h : x ≡ next-token s at) where
-  pub term-refused : (r : Refusal) → x ≡ Refused r → Begins s at (Begun.Refused r)
+module _ (E : Edition) (s : List ℕ) (at : ℕ) (x : Lexed) (h : x ≡ next-token s at) where
+  pub term-refused : (r : Refusal) → x ≡ Refused r → Begins E s at (Begun.Refused r)
   unfolding beginning token
   term-refused r e = λ small n. rw (sym h ∙ e)
 
   module _ (t : Token) (e : x ≡ Got t) where
-    pub term-on : (k : TokenKind) → t .kind ≡ k → (k ≡ TokenKind.Eof → ⊥) → (r : Begun) → BeginsOn s t k r → Begins s at r
+    pub term-on : (k : TokenKind) → t .kind ≡ k → (k ≡ TokenKind.Eof → ⊥) → (r : Begun) → BeginsOn E s t k r → Begins E s at r
     unfolding beginning token
     term-on k i f r b =
         λ small n.
-        rw (sym h ∙ e) (ap (λ j. beginning-on edition-0-1 s t j (position-at (t .end) n)) i ∙ b small (next-inside s at t (sym h ∙ e) (λ z. f (sym i ∙ z))) n)
+        rw (sym h ∙ e) (ap (λ j. beginning-on E s t j (position-at (t .end) n)) i ∙ b small (next-inside s at t (sym h ∙ e) (λ z. f (sym i ∙ z))) n)
 
-    pub term-not : (t .kind ≡ TokenKind.LParen → ⊥) → (t .kind ≡ TokenKind.Atom → ⊥) → (r : Refusal) → r ≡ at-token 1 t → Begins s at (Begun.Refused r)
+    pub term-not : (t .kind ≡ TokenKind.LParen → ⊥) → (t .kind ≡ TokenKind.Atom → ⊥) → (r : Refusal) → r ≡ at-token 1 t → Begins E s at (Begun.Refused r)
     unfolding beginning token beginning-on
     term-not p q r i = λ small n. rw (sym h ∙ e) (by (t .kind) p q (position-at (t .end) n) ∙ ap refused (sym i))
       where
-        by : (k : TokenKind) → (k ≡ TokenKind.LParen → ⊥) → (k ≡ TokenKind.Atom → ⊥) → (p : Position) → beginning-on edition-0-1 s t k p ≡ refused (at-token 1 t)
+        by : (k : TokenKind) → (k ≡ TokenKind.LParen → ⊥) → (k ≡ TokenKind.Atom → ⊥) → (p : Position) → beginning-on E s t k p ≡ refused (at-token 1 t)
         by TokenKind.LParen f g p = absurd (f refl)
         by TokenKind.RParen f g p = refl
         by TokenKind.Atom f g p = absurd (g refl)

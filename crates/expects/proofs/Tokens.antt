@@ -16,12 +16,13 @@ use Rattle.token.specs.declared.Token.{Token}
 use Rattle.token.specs.declared.Refusal.{Refusal}
 use Rattle.token.specs.declared.Lexed.{Lexed}
 use Rattle.token.specs.declared.Lexed.the-variants.{Got, Refused}
-use Rattle.words.specs.Words.{same-bytes, reserved, identifier, numeral, name-test}
+use Rattle.words.specs.Words.{same-bytes, identifier, numeral}
 use Rattle.words.specs.declared.NameTest.{NameTest}
-use Rattle.terms.specs.Forms.{edition-0-1}
+use Rattle.terms.specs.Forms.{Edition}
 use Rattle.surface.specs.Reader.{Position, Result, done, refused, Reader, after, _>>_, pure, refuse, require, at-token}
 use Rattle.surface.specs.Reading.{token, opening, closing, atom, word, natural, name}
 use Rattle.surface.specs.Text.{text, is-open, is-close, is-atom}
+use Rattle.expects.specs.Formats.{tested-name}
 use Rattle.expects.specs.Expects.{position-at, Reads}
 use Rattle.expects.specs.Tokens.{kind-number, of-kind}
 
@@ -115,9 +116,9 @@ module _ (s : List ℕ) (at : ℕ) (x : Lexed) (h : Reads s (atom s) at x) where
     unfolding natural
     natural-refused = λ n. rw (h n, e)
 
-    pub name-refused : Reads s (name edition-0-1 s) at (Refused r)
+    pub name-refused : (E : Edition) → Reads s (name E s) at (Refused r)
     unfolding name
-    name-refused = λ n. rw (h n, e)
+    name-refused E = λ n. rw (h n, e)
 
   module _ (t : Token) (e : x ≡ Got t) where
     pub word-got : (w : List ℕ) → same-bytes (text s t) w ≡ true → Reads s (word s w) at (Got t)
@@ -129,9 +130,9 @@ module _ (s : List ℕ) (at : ℕ) (x : Lexed) (h : Reads s (atom s) at x) where
     natural-got q = λ n. rw (h n, e, q)
 
     -- The name by the name test, in the test's order.
-    pub name-tested : (v : NameTest) → name-test (text s t) ≡ v → (n : ℕ) → name edition-0-1 s (position-at at n) ≡ by-test t v (position-at (t .end) n)
-    unfolding name edition-0-1 name-test
-    name-tested v q = λ n. rw (h n, e) (test-order (reserved (text s t)) (identifier (text s t)) t v (position-at (t .end) n) q)
+    pub name-tested : (E : Edition) (v : NameTest) → tested-name E (text s t) ≡ v → (n : ℕ) → name E s (position-at at n) ≡ by-test t v (position-at (t .end) n)
+    unfolding name
+    name-tested E v q = λ n. rw (h n, e) (test-order (E .reserved (text s t)) (identifier (text s t)) t v (position-at (t .end) n) q)
 
     module _ (r : Refusal) where
       pub word-not : r ≡ at-token 1 t → (w : List ℕ) → same-bytes (text s t) w ≡ false → Reads s (word s w) at (Refused r)

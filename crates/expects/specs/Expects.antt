@@ -5,11 +5,12 @@ use Prim.Native.Nat.{ℕ, _≤_}
 use lib.ListN.{length}
 use Rattle.token.specs.declared.Lexed.{Lexed}
 use Rattle.token.specs.declared.Token.{Token}
-use Rattle.terms.specs.Forms.{Edition, edition-0-1}
+use Rattle.terms.specs.Forms.{Edition}
 use Rattle.surface.specs.Reader.{Position, Result, done, refused, Reader}
 use Rattle.surface.specs.Reading.{Beginning, leaf, frame, lexed, beginning, Head, head}
 use Rattle.expects.specs.declared.Begun.{Begun}
 use Rattle.expects.specs.declared.HeadRead.{HeadRead}
+use Rattle.expects.specs.Formats.{edition}
 
 abbrev pub position-at : ℕ → ℕ → Position
 position-at at n = record { offset = at; rows = n }
@@ -25,12 +26,12 @@ begun n (Begun.Frame l arity next) = done (frame l arity) (position-at next n)
 begun n (Begun.Refused r) = refused r
 
 -- r is what a term begins with at an offset of a source that is not too long for 32-bit words.
-abbrev pub Begins : List ℕ → ℕ → Begun → Type 0
-Begins s at r = length s ≤ 65535 → (n : ℕ) → beginning edition-0-1 s (position-at at n) ≡ begun n r
+abbrev pub Begins : Edition → List ℕ → ℕ → Begun → Type 0
+Begins E s at r = length s ≤ 4294967295 → (n : ℕ) → beginning E s (position-at at n) ≡ begun n r
 
--- The module's name, and where reading goes on behind the head; or the refusal. There is one edition.
+-- The format's edition, the module's name, and where reading goes on behind the head; or the refusal.
 abbrev pub head-read : ℕ → HeadRead → Result Head
-head-read n (HeadRead.Name t next) = done (record { edition = edition-0-1; name = t }) (position-at next n)
+head-read n (HeadRead.Name f t next) = done (record { edition = edition f; name = t }) (position-at next n)
 head-read n (HeadRead.Refused r) = refused r
 
 -- r is the head at the beginning of a source.

@@ -1,3 +1,4 @@
+pub mod Formats
 pub mod Expects
 pub mod FormOfWord
 pub mod Tokens

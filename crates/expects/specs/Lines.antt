@@ -7,22 +7,23 @@ use Rattle.token.specs.declared.Token.{Token}
 use Rattle.token.specs.declared.Lexed.{Lexed}
 use Rattle.token.specs.declared.Lexed.the-variants.{Got, Refused}
 use Rattle.words.specs.Words.{ascii, same-bytes}
-use Rattle.terms.specs.Forms.{Edition, edition-0-1}
-use Rattle.surface.specs.Reader.{Result, done, refused, Reader, _>>=_}
+use Rattle.terms.specs.Forms.{Edition}
+use Rattle.surface.specs.Reader.{Result, done, refused, Reader, after, _>>=_, pure}
 use Rattle.surface.specs.Text.{text}
-use Rattle.surface.specs.Reading.{opening, closing, word, supported, edition-of, surface-line, module-line}
+use Rattle.surface.specs.Reading.{Head, opening, closing, word, supported, edition-of, surface-line, module-line}
 use Rattle.expects.specs.declared.HeadRead.{HeadRead}
-use Rattle.expects.specs.Expects.{position-at}
+use Rattle.expects.specs.declared.Format.{Format}
+use Rattle.expects.specs.Formats.{edition}
+use Rattle.expects.specs.Expects.{position-at, head-read}
 
 -- The edition, behind the closing parenthesis c of its line; or the refusal.
 abbrev pub edition-read : ℕ → Lexed → Result Edition
-edition-read n (Got c) = done edition-0-1 (position-at (c .end) n)
+edition-read n (Got c) = done (edition Format.Surface01) (position-at (c .end) n)
 edition-read n (Refused r) = refused r
 
--- The module's name, behind its line; or the refusal.
-abbrev pub name-read : ℕ → HeadRead → Result Token
-name-read n (HeadRead.Name x next) = done x (position-at next n)
-name-read n (HeadRead.Refused r) = refused r
+-- The head of a format, with the module's name.
+abbrev pub named : Format → Result Token → Result Head
+named f y = after y (λ x. pure (record { edition = edition f; name = x }))
 
 module _ (s : List ℕ) where
   -- The parenthesis and the word that a line begins with.
@@ -43,5 +44,6 @@ module _ (s : List ℕ) where
   abbrev pub SurfaceLine : Lexed → Type 0
   SurfaceLine r = (n : ℕ) → surface-line s (position-at 0 n) ≡ edition-read n r
 
-  abbrev pub ModuleLine : ℕ → HeadRead → Type 0
-  ModuleLine at r = (n : ℕ) → module-line s edition-0-1 (position-at at n) ≡ name-read n r
+  -- r has the name, and the format that it was asked for.
+  abbrev pub ModuleLine : Format → ℕ → HeadRead → Type 0
+  ModuleLine f at r = (n : ℕ) → named f (module-line s (edition f) (position-at at n)) ≡ head-read n r

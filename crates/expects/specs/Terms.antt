@@ -6,7 +6,7 @@ use lib.ListN.{length}
 use Rattle.token.specs.declared.TokenKind.{TokenKind}
 use Rattle.token.specs.declared.Token.{Token}
 use Rattle.token.specs.declared.Lexed.{Lexed}
-use Rattle.terms.specs.Forms.{edition-0-1, form-of-word}
+use Rattle.terms.specs.Forms.{Edition, form-of-word}
 use Rattle.terms.specs.Label.{Label}
 use Rattle.surface.specs.Reader.{after, _>>=_, pure}
 use Rattle.surface.specs.Text.{text}
@@ -27,18 +27,18 @@ LabelWith kind x offset l = x .end < 4294967296 → offset < 4294967296 → l �
 abbrev pub LabelAlone : ℕ → ℕ → Label → Type 0
 LabelAlone kind offset l = offset < 4294967296 → l ≡ record { kind = kind; start = 0; length = 0; offset = offset }
 
-module _ (s : List ℕ) where
+module _ (E : Edition) (s : List ℕ) where
   -- What a term begins with, of which the first token is t, of a kind.
   abbrev pub BeginsOn : Token → TokenKind → Begun → Type 0
-  BeginsOn t k r = length s ≤ 65535 → Inside (length s) t → (n : ℕ) → beginning-on edition-0-1 s t k (position-at (t .end) n) ≡ begun n r
+  BeginsOn t k r = length s ≤ 4294967295 → Inside (length s) t → (n : ℕ) → beginning-on E s t k (position-at (t .end) n) ≡ begun n r
 
   -- The same, of which the first tokens are the parenthesis o and the word w.
   abbrev pub BeginsWith : Token → Token → Begun → Type 0
   BeginsWith o w r =
-      length s ≤ 65535 → Inside (length s) o → (n : ℕ)
-      → known edition-0-1 s (λ f. tagged edition-0-1 s o w f (f .shape)) w (form-of-word (text s w) (edition-0-1 .forms)) (position-at (w .end) n) ≡ begun n r
+      length s ≤ 4294967295 → Inside (length s) o → (n : ℕ)
+      → known E s (λ f. tagged E s o w f (f .shape)) w (form-of-word (text s w) (E .forms)) (position-at (w .end) n) ≡ begun n r
 
-  -- The rest of a term with the name or numeral x: its closing parenthesis.
-  abbrev pub ClosesLeaf : ℕ → ℕ → Lexed → Begun → Type 0
-  ClosesLeaf kind offset x r =
-      length s ≤ 65535 → offset ≤ length s → (n : ℕ) → after (lexed s n x) (λ t. closing s >>= (λ c. pure (leaf (label-of kind t offset)))) ≡ begun n r
+-- The rest of a term with the name or numeral x: its closing parenthesis.
+abbrev pub ClosesLeaf : List ℕ → ℕ → ℕ → Lexed → Begun → Type 0
+ClosesLeaf s kind offset x r =
+    length s ≤ 4294967295 → offset ≤ length s → (n : ℕ) → after (lexed s n x) (λ t. closing s >>= (λ c. pure (leaf (label-of kind t offset)))) ≡ begun n r

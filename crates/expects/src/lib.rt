@@ -4,10 +4,11 @@ ghost use mathlib.Core.Path.{_≡_};
 ghost use Prim.Native.Nat.{ℕ, _≤_, _<_};
 ghost use lib.ListN.{length};
 ghost use Rattle.token.specs.Token.{next-token};
-ghost use Rattle.terms.specs.Forms.{edition-0-1, forms, form-of-word};
-ghost use Rattle.surface.specs.Reader.{at-offset};
+ghost use Rattle.terms.specs.Forms.{forms, form-of-word};
+ghost use Rattle.surface.specs.Reader.{nowhere, at-offset};
 ghost use Rattle.surface.specs.Reading.{opening, closing, atom, word, natural, name, declaration-kind};
 ghost use Rattle.expects.specs.Expects.{Reads, Begins, Heads};
+ghost use Rattle.expects.specs.Formats.{edition, tested-name};
 ghost use Rattle.expects.specs.FormOfWord.{form-numbers, form-at};
 ghost use Rattle.expects.specs.Tokens.{kind-number, Inside, LexedInside, OfKind};
 ghost use Rattle.expects.specs.Terms.{LabelWith, LabelAlone, BeginsOn, BeginsWith, ClosesLeaf};
@@ -20,6 +21,11 @@ use token::Token;
 use token::TokenKind;
 use words::NameTest;
 
+// The formats that are read: which words are reserved and which have a form. One is known.
+pub enum Format {
+    Surface01,
+}
+
 // What a term begins with, and where reading goes on: the whole of a term without arguments, or a frame with its arity.
 pub enum Begun {
     Leaf(Label, usize),
@@ -27,9 +33,9 @@ pub enum Begun {
     Refused(Refusal),
 }
 
-// The module's name, and where reading goes on.
+// The format, the module's name, and where reading goes on.
 pub enum HeadRead {
-    Name(Token, usize),
+    Name(Format, Token, usize),
     Refused(Refusal),
 }
 
@@ -40,12 +46,23 @@ pub struct FormOfWord {
     pub arity: u32,
 }
 
-fn refused_at(class: u8, at: usize) -> Refusal
+// A refusal of a class, at an offset.
+pub fn refused_at(class: u8, at: usize) -> Refusal
     ensures { λ r. ⌜ r ≡ at-offset class at ⌝ }
 {
     Refusal {
         class: class,
         place: Place::At(at),
+    }
+}
+
+// The same, at no place.
+pub fn refused_nowhere(class: u8) -> Refusal
+    ensures { λ r. ⌜ r ≡ nowhere class ⌝ }
+{
+    Refusal {
+        class: class,
+        place: Place::Nowhere,
     }
 }
 
@@ -61,40 +78,56 @@ fn kind_number(k: TokenKind) -> u8
     }
 }
 
-// The next token. A parenthesis that stands at its place is told there, before layout is looked for.
-fn token_at(s: &[u8], at: usize) -> Lexed
+// The next token. An opening parenthesis that stands at its place is told there, before layout is looked for.
+fn open_at(s: &[u8], at: usize) -> Lexed
     ensures { λ r. ⌜ r ≡ next-token (now (s .entry)) at ⌝ }
 {
     if at < s.len() {
-        let b = s[at];
-        if b == 40 {
+        if s[at] == 40 {
+            let end = at + 1;
             return Lexed::Got(Token {
                 kind: TokenKind::LParen,
                 start: at,
-                end: at + 1,
-            });
-        }
-        if b == 41 {
-            return Lexed::Got(Token {
-                kind: TokenKind::RParen,
-                start: at,
-                end: at + 1,
+                end: end,
             });
         }
     }
     token::next_token(s, at)
 }
 
-// The next token. One space, as often stands between two tokens, is passed before the token is looked at.
-pub fn next_token(s: &[u8], at: usize) -> Lexed
+// The same for a closing parenthesis.
+fn close_at(s: &[u8], at: usize) -> Lexed
     ensures { λ r. ⌜ r ≡ next-token (now (s .entry)) at ⌝ }
 {
     if at < s.len() {
-        if s[at] == 32 {
-            return token_at(s, at + 1);
+        if s[at] == 41 {
+            let end = at + 1;
+            return Lexed::Got(Token {
+                kind: TokenKind::RParen,
+                start: at,
+                end: end,
+            });
         }
     }
-    token_at(s, at)
+    token::next_token(s, at)
+}
+
+// One space, as often stands between two tokens, is passed before the token is looked at.
+fn behind_space(s: &[u8], at: usize) -> usize
+    ensures { λ r. ⌜ next-token (now (s .entry)) r ≡ next-token (now (s .entry)) at ⌝ }
+{
+    if at < s.len() {
+        if s[at] == 32 {
+            return at + 1;
+        }
+    }
+    at
+}
+
+pub fn next_token(s: &[u8], at: usize) -> Lexed
+    ensures { λ r. ⌜ r ≡ next-token (now (s .entry)) at ⌝ }
+{
+    open_at(s, behind_space(s, at))
 }
 
 // A token that was read, which must be of the wanted kind.
@@ -117,13 +150,13 @@ fn expect_kind(l: Lexed, wanted: TokenKind) -> Lexed
 pub fn expect_lparen(s: &[u8], at: usize) -> Lexed
     ensures { λ r. ⌜ Reads (now (s .entry)) (opening (now (s .entry))) at r ⌝ }
 {
-    expect_kind(next_token(s, at), TokenKind::LParen)
+    expect_kind(open_at(s, at), TokenKind::LParen)
 }
 
 pub fn expect_rparen(s: &[u8], at: usize) -> Lexed
     ensures { λ r. ⌜ Reads (now (s .entry)) (closing (now (s .entry))) at r ⌝ }
 {
-    expect_kind(next_token(s, at), TokenKind::RParen)
+    expect_kind(close_at(s, at), TokenKind::RParen)
 }
 
 pub fn next_atom(s: &[u8], at: usize) -> Lexed
@@ -166,8 +199,17 @@ pub fn parse_natural(s: &[u8], at: usize) -> Lexed
     }
 }
 
-pub fn parse_identifier(s: &[u8], at: usize) -> Lexed
-    ensures { λ r. ⌜ Reads (now (s .entry)) (name edition-0-1 (now (s .entry))) at r ⌝ }
+// Whether an atom is a name, with the reserved words of a format.
+fn name_test(w: &[u8], format: Format) -> NameTest
+    ensures { λ r. ⌜ r ≡ tested-name (edition format) (now (w .entry)) ⌝ }
+{
+    match format {
+        Format::Surface01 => words::name_test(w),
+    }
+}
+
+pub fn parse_identifier(s: &[u8], at: usize, format: Format) -> Lexed
+    ensures { λ r. ⌜ Reads (now (s .entry)) (name (edition format) (now (s .entry))) at r ⌝ }
 {
     let l = next_atom(s, at);
     match l {
@@ -175,7 +217,7 @@ pub fn parse_identifier(s: &[u8], at: usize) -> Lexed
         Lexed::Got(t) => {
             let a = t.start;
             let e = t.end;
-            let test = words::name_test(&s[a..e]);
+            let test = name_test(&s[a..e], format);
             match test {
                 NameTest::Name => Lexed::Got(t),
                 NameTest::Reserved => Lexed::Refused(refused_at(3, a)),
@@ -200,9 +242,7 @@ pub fn declaration_kind(w: &[u8]) -> u32
     k - 2
 }
 
-// The shapes and arities of the words from `universe` on: octal digits, the last one for `universe`. An array would be copied where it is read.
-const SHAPES: u64 = 0o555_115_115_155_555_545_443;
-
+// The arities of the words from `universe` on: octal digits, the last one for `universe`. An array would be copied where it is read.
 const ARITIES: u64 = 0o241_003_002_061_311_222_120;
 
 // The kind of the form of word k: `ref` is word 6, and the words behind it stand in the order of their kinds.
@@ -219,18 +259,36 @@ fn kind_at(k: u32) -> u32
     k - 4
 }
 
+// One arm for each word becomes a table that is read in place.
 fn shape_at(k: u32) -> u8
     requires { ⌜ k < 28 ⌝ }
     ensures { λ r. ⌜ r ≡ form-at k .shape ⌝ }
 {
-    if k < 6 {
-        return 0;
+    match k {
+        6 => 2, // ref
+        7 => 3, // universe
+        8 => 4, // pi
+        9 => 4, // lam
+        10 => 5, // app
+        11 => 4, // sigma
+        12 => 5, // pair
+        13 => 5, // fst
+        14 => 5, // snd
+        15 => 5, // id
+        16 => 5, // refl
+        17 => 5, // j
+        18 => 1, // empty
+        19 => 5, // empty-elim
+        20 => 1, // unit
+        21 => 1, // star
+        22 => 5, // unit-elim
+        23 => 1, // nat
+        24 => 1, // zero
+        25 => 5, // succ
+        26 => 5, // nat-elim
+        27 => 5, // ann
+        _ => 0,
     }
-    if k == 6 {
-        return 2;
-    }
-    let digit = k as u64 - 7;
-    ((SHAPES >> (3 * digit)) % 8) as u8
 }
 
 fn arity_at(k: u32) -> u32
@@ -244,7 +302,8 @@ fn arity_at(k: u32) -> u32
     ((ARITIES >> (3 * digit)) % 8) as u32
 }
 
-pub fn form_of_word(w: &[u8]) -> FormOfWord
+// The form of a word of surface 0 1.
+fn surface_form(w: &[u8]) -> FormOfWord
     ensures { λ r. ⌜ r ≡ form-numbers (form-of-word (now (w .entry)) forms) ⌝ }
 {
     let k = words::word_index(w) as u32;
@@ -255,8 +314,16 @@ pub fn form_of_word(w: &[u8]) -> FormOfWord
     }
 }
 
-// An offset or a length as a word of a row: itself, in a source of at most 65535 bytes.
-fn narrow(n: usize) -> u32
+pub fn form_of_word(w: &[u8], format: Format) -> FormOfWord
+    ensures { λ r. ⌜ r ≡ form-numbers (form-of-word (now (w .entry)) (edition format .forms)) ⌝ }
+{
+    match format {
+        Format::Surface01 => surface_form(w),
+    }
+}
+
+// An offset or a length as a word of a row or a record: itself, in a source of at most 4294967295 bytes.
+pub fn narrow(n: usize) -> u32
     ensures { λ r. ⌜ (n < 4294967296 → r ≡ n) ⌝ }
 {
     (n % 4294967296) as u32
@@ -288,13 +355,13 @@ fn label_alone(kind: u32, offset: usize) -> Label
 }
 
 // The term of a word t that stands without a parenthesis.
-fn begin_bare(s: &[u8], t: Token) -> Begun
+fn begin_bare(s: &[u8], t: Token, format: Format) -> Begun
     requires { ⌜ Inside (length (now s)) t ⌝ }
-    ensures { λ r. ⌜ BeginsOn (now (s .entry)) t TokenKind.Atom r ⌝ }
+    ensures { λ r. ⌜ BeginsOn (edition format) (now (s .entry)) t TokenKind.Atom r ⌝ }
 {
     let a = t.start;
     let e = t.end;
-    let form = form_of_word(&s[a..e]);
+    let form = form_of_word(&s[a..e], format);
     if form.shape == 1 {
         return Begun::Leaf(label_alone(form.kind, a), e);
     }
@@ -319,24 +386,24 @@ fn close_leaf(s: &[u8], kind: u32, offset: usize, x: Lexed) -> Begun
 }
 
 // The beginning of a term behind its parenthesis and its word t.
-fn begin_tagged(s: &[u8], lparen: Token, t: Token) -> Begun
+fn begin_tagged(s: &[u8], lparen: Token, t: Token, format: Format) -> Begun
     requires { ⌜ Inside (length (now s)) t ⌝ }
-    ensures { λ r. ⌜ BeginsWith (now (s .entry)) lparen t r ⌝ }
+    ensures { λ r. ⌜ BeginsWith (edition format) (now (s .entry)) lparen t r ⌝ }
 {
     let a = t.start;
     let e = t.end;
-    let form = form_of_word(&s[a..e]);
+    let form = form_of_word(&s[a..e], format);
     let kind = form.kind;
     let shape = form.shape;
     let offset = lparen.start;
     match shape {
         // (ref NAME)
-        2 => close_leaf(s, kind, offset, parse_identifier(s, e)),
+        2 => close_leaf(s, kind, offset, parse_identifier(s, e, format)),
         // (universe NUMERAL)
         3 => close_leaf(s, kind, offset, parse_natural(s, e)),
         // A binder is read and tested before the frame is opened.
         4 => {
-            let x = parse_identifier(s, e);
+            let x = parse_identifier(s, e, format);
             match x {
                 Lexed::Refused(r) => Begun::Refused(r),
                 Lexed::Got(binder) => Begun::Frame(
@@ -352,19 +419,19 @@ fn begin_tagged(s: &[u8], lparen: Token, t: Token) -> Begun
 }
 
 // The beginning of a term behind its parenthesis.
-fn begin_form(s: &[u8], lparen: Token) -> Begun
-    ensures { λ r. ⌜ BeginsOn (now (s .entry)) lparen TokenKind.LParen r ⌝ }
+fn begin_form(s: &[u8], lparen: Token, format: Format) -> Begun
+    ensures { λ r. ⌜ BeginsOn (edition format) (now (s .entry)) lparen TokenKind.LParen r ⌝ }
 {
     let l = next_atom(s, lparen.end);
     match l {
         Lexed::Refused(r) => Begun::Refused(r),
-        Lexed::Got(t) => begin_tagged(s, lparen, t),
+        Lexed::Got(t) => begin_tagged(s, lparen, t, format),
     }
 }
 
 // What a term begins with: all of a term without arguments, or a form with its name.
-pub fn begin_term(s: &[u8], at: usize) -> Begun
-    ensures { λ r. ⌜ Begins (now (s .entry)) at r ⌝ }
+pub fn begin_term(s: &[u8], at: usize, format: Format) -> Begun
+    ensures { λ r. ⌜ Begins (edition format) (now (s .entry)) at r ⌝ }
 {
     let l = next_token(s, at);
     match l {
@@ -372,8 +439,8 @@ pub fn begin_term(s: &[u8], at: usize) -> Begun
         Lexed::Got(t) => {
             let kind = t.kind;
             match kind {
-                TokenKind::LParen => begin_form(s, t),
-                TokenKind::Atom => begin_bare(s, t),
+                TokenKind::LParen => begin_form(s, t, format),
+                TokenKind::Atom => begin_bare(s, t, format),
                 _ => Begun::Refused(refused_at(1, t.start)),
             }
         }
@@ -452,21 +519,21 @@ fn surface_line(s: &[u8]) -> Lexed
 }
 
 // `(module NAME)`
-fn module_line(s: &[u8], at: usize) -> HeadRead
-    ensures { λ r. ⌜ ModuleLine (now (s .entry)) at r ⌝ }
+fn module_line(s: &[u8], at: usize, format: Format) -> HeadRead
+    ensures { λ r. ⌜ ModuleLine (now (s .entry)) format at r ⌝ }
 {
     let l = expect_tag(s, at, b"module");
     match l {
         Lexed::Refused(r) => HeadRead::Refused(r),
         Lexed::Got(w) => {
-            let m = parse_identifier(s, w.end);
+            let m = parse_identifier(s, w.end, format);
             match m {
                 Lexed::Refused(r) => HeadRead::Refused(r),
                 Lexed::Got(x) => {
                     let c = expect_rparen(s, x.end);
                     match c {
                         Lexed::Refused(r) => HeadRead::Refused(r),
-                        Lexed::Got(close) => HeadRead::Name(x, close.end),
+                        Lexed::Got(close) => HeadRead::Name(format, x, close.end),
                     }
                 }
             }
@@ -480,6 +547,6 @@ pub fn read_head(s: &[u8]) -> HeadRead
     let l = surface_line(s);
     match l {
         Lexed::Refused(r) => HeadRead::Refused(r),
-        Lexed::Got(close) => module_line(s, close.end),
+        Lexed::Got(close) => module_line(s, close.end, Format::Surface01),
     }
 }

@@ -2,3 +2,4 @@ mod Parts
 mod KindWords
 mod Rows
 mod Example
+pub mod Lengths

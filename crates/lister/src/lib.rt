@@ -4,7 +4,7 @@ use surface::Answer;
 ghost use mathlib.Core.Path.{_≡_};
 ghost use lib.ListN.{length};
 ghost use Rattle.text.specs.Text.{with-text, length-in};
-ghost use Rattle.loader.specs.Leaving.{lengths-of};
+ghost use Rattle.surface.specs.Tables.{tables};
 ghost use Rattle.lister.specs.Lists.{text-of, Lists};
 
 // What loading answers, and the length of the text.
@@ -37,7 +37,7 @@ pub fn list(
     work: &mut [u32],
     text: &mut [u8],
 ) -> Listed
-    ensures { λ r. ⌜ Lists (now (s .entry)) (lengths-of (now (surface .entry)) (now (core .entry)) (now (declarations .entry)) (now (work .entry))) (now (text .entry)) r (now (surface .exit)) (now (core .exit)) (now (declarations .exit)) (now (work .exit)) (now (text .exit)) ⌝ }
+    ensures { λ r. ⌜ Lists (now (s .entry)) (tables (now (surface .entry)) (now (core .entry)) (now (declarations .entry)) (now (work .entry))) (now (text .entry)) r (tables (now (surface .exit)) (now (core .exit)) (now (declarations .exit)) (now (work .exit))) (now (text .exit)) ⌝ }
 {
     let answer = loader::load(s, surface, core, declarations, work);
     let length = put_text(s, core, declarations, answer, text);

@@ -1,2 +1,6 @@
 mod Text
 mod Steps
+pub mod Example
+mod Atoms
+mod Shown
+pub mod Fits

@@ -41,7 +41,10 @@ fn malformed(at: usize) -> Refusal
 
 // "Order: 11; 6; not UTF-8; leading EF BB BF; then 1, 2, 3, 7, 8, 9 by reading order". What lies behind the rows and records is untouched.
 fn parse(s: &[u8], surface: &mut [u32], declarations: &mut [u32], work: &mut [u32]) -> ModuleRead
-    ensures { λ r. ⌜ ReadsModule (parsing (now (s .entry)) (lengths-of (now (surface .entry)) [] (now (declarations .entry)) (now (work .entry))) start) (now (surface .entry)) (now (declarations .entry)) r (now (surface .exit)) (now (declarations .exit)) ⌝ }
+    ensures { λ r. ⌜
+        ReadsModule (parsing (now (s .entry)) (lengths-of (now (surface .entry)) [] (now (declarations .entry)) (now (work .entry))) start)
+        (now (surface .entry)) (now (declarations .entry)) r (now (surface .exit)) (now (declarations .exit))
+        ⌝ }
 {
     if work.len() < 16384 {
         return ModuleRead::Refused(refused(11));
@@ -69,7 +72,12 @@ fn resolve(
     rows: usize,
     count: usize,
 ) -> Answer
-    ensures { λ r. ⌜ ((ds : List Declaration) → (rows * 8 ≤ length (now (core .entry)) → Loadable (now (surface .entry)) (now (declarations .entry)) (now (core .entry)) (now (work .entry)) rows count ds) → Resolves (now (s .entry)) ds rows (now (core .entry)) r (now (core .exit))) ⌝ }
+    ensures { λ r. ⌜
+        ((ds : List Declaration)
+        → (rows * 8 ≤ length (now (core .entry))
+        → Loadable (now (surface .entry)) (now (declarations .entry)) (now (core .entry)) (now (work .entry)) rows count ds)
+        → Resolves (now (s .entry)) ds rows (now (core .entry)) r (now (core .exit)))
+        ⌝ }
 {
     if core.len() / 8 < rows {
         return Answer::Refused(refused(10));
@@ -104,7 +112,10 @@ fn load_tables(
     declarations: &mut [u32],
     work: &mut [u32],
 ) -> Answer
-    ensures { λ r. ⌜ Stores (now (s .entry)) (loading (now (s .entry)) (lengths-of (now (surface .entry)) (now (core .entry)) (now (declarations .entry)) (now (work .entry))) start) r (now (surface .exit)) (now (core .exit)) (now (declarations .exit)) ⌝ }
+    ensures { λ r. ⌜
+        Stores (now (s .entry)) (loading (now (s .entry)) (lengths-of (now (surface .entry)) (now (core .entry)) (now (declarations .entry)) (now (work .entry))) start) r
+        (now (surface .exit)) (now (core .exit)) (now (declarations .exit))
+        ⌝ }
     ensures { λ r. ⌜ Counts r (now (surface .entry)) (now (core .entry)) (now (declarations .entry)) ⌝ }
 {
     let read = parse(s, surface, declarations, work);
@@ -149,7 +160,12 @@ pub fn load(
     declarations: &mut [u32],
     work: &mut [u32],
 ) -> Answer
-    ensures { λ r. ⌜ Loads (now (s .entry)) (tables (now (surface .entry)) (now (core .entry)) (now (declarations .entry)) (now (work .entry))) r (tables (now (surface .exit)) (now (core .exit)) (now (declarations .exit)) (now (work .exit))) ⌝ }
+    ensures { λ r. ⌜
+        Loads (now (s .entry))
+        (tables (now (surface .entry)) (now (core .entry)) (now (declarations .entry)) (now (work .entry)))
+        r
+        (tables (now (surface .exit)) (now (core .exit)) (now (declarations .exit)) (now (work .exit)))
+        ⌝ }
 {
     let answer = load_tables(s, surface, core, declarations, work);
     let rows = row_count(answer);
@@ -198,7 +214,12 @@ pub fn parse_surface(
     declarations: &mut [u32],
     work: &mut [u32],
 ) -> ModuleRead
-    ensures { λ r. ⌜ Parses (now (s .entry)) (tables (now (surface .entry)) [] (now (declarations .entry)) (now (work .entry))) r (tables (now (surface .exit)) [] (now (declarations .exit)) (now (work .exit))) ⌝ }
+    ensures { λ r. ⌜
+        Parses (now (s .entry))
+        (tables (now (surface .entry)) [] (now (declarations .entry)) (now (work .entry)))
+        r
+        (tables (now (surface .exit)) [] (now (declarations .exit)) (now (work .exit)))
+        ⌝ }
 {
     let read = parse(s, surface, declarations, work);
     let rows = rows_read(read);

@@ -1,5 +1,6 @@
 pub mod Counting
 pub mod TreeRows
+pub mod StoredRows
 pub mod Growth
 pub mod Resume
 pub mod Readers

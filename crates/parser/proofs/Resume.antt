@@ -12,6 +12,7 @@ use Rattle.terms.specs.Label.{Label}
 use Rattle.terms.specs.Rows.{surface-row}
 use Rattle.surface.specs.Reader.{Position, Result, Reader, nowhere}
 use Rattle.surface.specs.Reading.{Beginning, leaf, frame}
+use Rattle.rows.specs.Places.{stored-at}
 use Rattle.frames.specs.Frames.{OpenFrame}
 use Rattle.parser.specs.TermRows.{RowResult, done, refused, store-row, close-row, rest-rows, begin-row, term-rows, after-term, resume}
 
@@ -28,7 +29,7 @@ module _ (beginning : Reader Beginning) (close : Reader Token) (limit : ℕ) whe
   module _ (l : Label) (children : List ℕ) (p : Position) (w : List ℕ) where
     pub store-yes : p .rows < limit
         → store-row beginning close limit l children p w
-        ≡ done (p .rows) (record { offset = p .offset; rows = suc (p .rows) }) (w ++ surface-row (record { label = l; children = children }))
+        ≡ done (p .rows) (record { offset = p .offset; rows = suc (p .rows) }) (stored-at 8 w (p .rows) (surface-row (record { label = l; children = children })))
     unfolding store-row
     store-yes h = rw (lt-ltb (p .rows) limit h, store-row)
 

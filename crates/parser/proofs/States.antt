@@ -1,39 +1,38 @@
 -- One step of the frame reader, said of a state and the tables. Assumes nothing.
-use mathlib.Core.Path.{_≡_, refl, sym, _∙_, ap, ap₂, subst}
+use mathlib.Core.Path.{_≡_, refl, sym, _∙_, ap, subst}
 use mathlib.Core.List.{List, [], _∷_, _++_}
 use mathlib.Core.Bool.{Bool, true, false}
-use Prim.Native.Nat.{ℕ, suc, _+_, _-_, _*_, _/_, _≤_, _<_}
+use Prim.Native.Nat.{ℕ, suc, _+_, _-_, _*_, _≤_, _<_}
 use native.Mathlib.Omega.{arith}
 use native.Mathlib.Numerals.{add-one}
 use lib.Dec.{ltb}
-use lib.ListN.{length, take, length-append}
-use borrow.Author.Tests.{ltb-true, ltb-false}
+use lib.ListN.{length, length-append}
+use borrow.Author.Tests.{ltb-true, ltb-false, lt-ltb, le-ltb}
 use Rattle.token.specs.declared.Token.{Token}
 use Rattle.token.specs.declared.Refusal.{Refusal}
-use Rattle.rows.specs.Places.{has-place, stored-at}
-use Rattle.rows.proofs.Words.{length-pad}
-use Rattle.rows.proofs.Storing.{take-next, drop-next, length-stored-at}
-use Rattle.terms.specs.Forms.{edition-0-1, arity-of}
+use Rattle.rows.specs.Places.{stored-at}
+use Rattle.terms.specs.Forms.{arity-of}
 use Rattle.terms.specs.Label.{Label}
 use Rattle.terms.specs.Rows.{surface-row}
 use Rattle.surface.specs.Reader.{Position, Result, Reader, nowhere}
-use Rattle.surface.specs.Reading.{Beginning, leaf, frame, beginning, closing}
+use Rattle.surface.specs.Reading.{Beginning, leaf, frame}
 use Rattle.frames.specs.Frames.{OpenFrame, frame-at, open-frames}
 use Rattle.expects.specs.Expects.{position-at}
 use Rattle.parser.specs.TermRows.{RowResult, done, refused, store-row, close-row, term-rows, after-term, resume}
-use Rattle.parser.specs.Machine.{pending, outcome, weight, one-if, Waiting, Inside, Went, Stepped, pushed-term}
+use Rattle.parser.specs.Machine.{Setting, pending, outcome, weight, one-if, Waiting, Inside, Went, Stepped, pushed-term, pushed-row}
 use Rattle.parser.specs.declared.State.{State}
 use Rattle.parser.specs.declared.Step.{Step}
 use Rattle.parser.proofs.Resume.{Arities, resume-refused, store-yes, store-no, term-refused, term-leaf, term-deep, term-frame, after-more, after-last}
 
-module _ (table : List ℕ) (n at d : ℕ) where
-  pub pushed-yes : has-place 8 table n ≡ true → Step.Go (record { at = at; rows = n + 1; depth = d; value = n; have = true }) ≡ pushed-term table n at d
-  unfolding pushed-term
-  pushed-yes e = rw (e, pushed-term)
+module _ (limit : ℕ) (table : List ℕ) (n at d : ℕ) (row : List ℕ) where
+  pub pushed-yes : n < limit
+      → (Step.Go (record { at = at; rows = n + 1; depth = d; value = n; have = true }) ≡ pushed-term limit n at d) × (stored-at 8 table n row ≡ pushed-row limit table n row)
+  unfolding pushed-term pushed-row
+  pushed-yes h = let e = lt-ltb n limit h in (rw (e, pushed-term), rw (e, pushed-row))
 
-  pub pushed-no : has-place 8 table n ≡ false → Step.Refused (nowhere 8) ≡ pushed-term table n at d
-  unfolding pushed-term
-  pushed-no e = rw (e, pushed-term)
+  pub pushed-no : limit ≤ n → (Step.Refused (nowhere 8) ≡ pushed-term limit n at d) × (table ≡ pushed-row limit table n row)
+  unfolding pushed-term pushed-row
+  pushed-no h = let e = le-ltb n limit h in (rw (e, pushed-term), rw (e, pushed-row))
 
 -- Where frames are open, the last waits for an argument, and so do the others.
 pub last-waits : (work : List ℕ) (depth d : ℕ) → depth ≡ suc d → Waiting (open-frames work depth)
@@ -41,31 +40,28 @@ pub last-waits : (work : List ℕ) (depth d : ℕ) → depth ≡ suc d → Waiti
 unfolding open-frames
 last-waits work depth d e w = subst (λ (x : ℕ). Waiting (open-frames work x)) e w
 
-module _ (s table work : List ℕ) (st : State) where
+module _ (s : List ℕ) (m : Setting) (table work : List ℕ) (st : State) where
   abbrev begin : Reader Beginning
-  begin = beginning edition-0-1 s
+  begin = m .begin
 
   abbrev close : Reader Token
-  close = closing s
+  close = m .close
 
   abbrev limit : ℕ
-  limit = length table / 8
+  limit = m .limit
 
   abbrev here : Position
   here = position-at (st .at) (st .rows)
 
-  abbrev words : List ℕ
-  words = take (st .rows * 8) table
-
   -- What the first d frames of a work area still do, where that many are open.
   abbrev resumed : List ℕ → ℕ → RowResult → RowResult
-  resumed area d o = resume begin close limit (512 - d) (open-frames area d) o
+  resumed area d o = resume begin close limit (m .frames - d) (open-frames area d) o
 
   abbrev stores : Label → List ℕ → ℕ → RowResult
-  stores l children e = store-row begin close limit l children (position-at e (st .rows)) words
+  stores l children e = store-row begin close limit l children (position-at e (st .rows)) table
 
   -- A state that comes to the storing of a row, with the first d frames of a work area behind it.
-  module _ (l : Label) (children : List ℕ) (e d : ℕ) (area : List ℕ) (same : outcome s table work st ≡ resumed area d (stores l children e)) where
+  module _ (l : Label) (children : List ℕ) (e d : ℕ) (area : List ℕ) (same : outcome m table work st ≡ resumed area d (stores l children e)) where
     abbrev row : List ℕ
     row = surface-row (record { label = l; children = children })
 
@@ -75,119 +71,111 @@ module _ (s table work : List ℕ) (st : State) where
     abbrev next-state : State
     next-state = record { at = e; rows = st .rows + 1; depth = d; value = st .rows; have = true }
 
-    eight : length row ≡ 8
-    eight = simp length-pad
-
-    full : limit ≤ st .rows → outcome s table work st ≡ refused (nowhere 8)
+    full : limit ≤ st .rows → outcome m table work st ≡ refused (nowhere 8)
     full h =
         same
-        ∙ ap (resumed area d) (store-no begin close limit l children (position-at e (st .rows)) words h)
-        ∙ resume-refused begin close limit (512 - d) (open-frames area d) (nowhere 8)
+        ∙ ap (resumed area d) (store-no begin close limit l children (position-at e (st .rows)) table h)
+        ∙ resume-refused begin close limit (m .frames - d) (open-frames area d) (nowhere 8)
 
-    stored : st .rows < limit → outcome s table work st ≡ outcome s next-table area next-state
+    stored : st .rows < limit → outcome m table work st ≡ outcome m next-table area next-state
     unfolding outcome pending
     stored h =
         let n = st .rows in
         same
         ∙ ap (resumed area d)
-        (store-yes begin close limit l children (position-at e n) words h
-        ∙ ap₂ (λ (m : ℕ) (w : List ℕ). done n (position-at e m) w) (sym (add-one n)) (sym (take-next 8 table n row eight (omega arith) h)))
-        ∙ ap (λ (x : ℕ). resume begin close (x / 8) (512 - d) (open-frames area d) (done n (position-at e (n + 1)) (take ((n + 1) * 8) next-table)))
-        (sym (length-stored-at 8 table n row eight (omega arith)))
+        (store-yes begin close limit l children (position-at e n) table h ∙ ap (λ (k : ℕ). done n (position-at e k) next-table) (sym (add-one n)))
 
-    module _ (i : Inside s work st) (a : st .at < e) (b : e ≤ length s) (m : d ≤ 512) (k : 16384 ≤ length area) (w : Waiting (open-frames area d)) where
-      store-went : st .rows < limit → Went s table work st next-state next-table area
+    module _ (i : Inside (m .frames) s work st) (a : st .at < e) (b : e ≤ length s) (f : d ≤ m .frames) (k : m .frames * 11 ≤ length area)
+        (w : Waiting (open-frames area d)) where
+      store-went : st .rows < limit → Went s m table work st next-state next-table area
       store-went h = record {
         same = stored h;
         less = omega arith;
-        inside = record { source = i .source; area = k; at = b; rows = omega arith; depth = m; waiting = w };
-        behind = drop-next 8 table (st .rows) row eight (omega arith) h;
-        more = omega arith;
+        inside = record { source = i .source; area = k; at = b; rows = omega arith; depth = f; waiting = w };
       }
 
-      push-by : (t : Bool) → ltb (st .rows) limit ≡ t → Stepped s table work st (pushed-term table (st .rows) e d) next-table area
-      unfolding pushed-term
-      push-by true q = rw (q, pushed-term) (store-went (ltb-true (st .rows) limit q))
-      push-by false q = rw (q, pushed-term) (full (ltb-false (st .rows) limit q))
+      push-by : (t : Bool) → ltb (st .rows) limit ≡ t → Stepped s m table work st (pushed-term limit (st .rows) e d) (pushed-row limit table (st .rows) row) area
+      unfolding pushed-term pushed-row
+      push-by true q = rw (q, pushed-term, pushed-row) (store-went (ltb-true (st .rows) limit q))
+      push-by false q = rw (q, pushed-term, pushed-row) (full (ltb-false (st .rows) limit q))
 
-      pub push-stepped : (r : Step) (table₁ : List ℕ) → r ≡ pushed-term table (st .rows) e d → table₁ ≡ next-table → Stepped s table work st r table₁ area
+      pub push-stepped : (r : Step) (table₁ : List ℕ) → r ≡ pushed-term limit (st .rows) e d → table₁ ≡ pushed-row limit table (st .rows) row
+          → Stepped s m table work st r table₁ area
       push-stepped r table₁ q t = rw (q, t) (push-by (ltb (st .rows) limit) refl)
 
   abbrev waits : List OpenFrame → ℕ → ℕ → RowResult
   waits frs e d =
-      resume begin close limit (512 - d) frs
-      (term-rows begin close limit (512 - d) (position-at e (st .rows)) words)
+      resume begin close limit (m .frames - d) frs
+      (term-rows begin close limit (m .frames - d) (position-at e (st .rows)) table)
 
   -- A step to a state that is to read a term for its last frame.
-  waits-went : (frs : List OpenFrame) (e d : ℕ) (area : List ℕ) → outcome s table work st ≡ waits frs e d → open-frames area d ≡ frs
-      → Inside s work st → st .at ≤ e → e ≤ length s → d ≤ 512 → length area ≡ length work → Waiting frs → 2 * (length s - e) < weight s st
-      → Went s table work st (record { at = e; rows = st .rows; depth = d; value = 0; have = false }) table area
+  waits-went : (frs : List OpenFrame) (e d : ℕ) (area : List ℕ) → outcome m table work st ≡ waits frs e d → open-frames area d ≡ frs
+      → Inside (m .frames) s work st → st .at ≤ e → e ≤ length s → d ≤ m .frames → length area ≡ length work → Waiting frs → 2 * (length s - e) < weight s st
+      → Went s m table work st (record { at = e; rows = st .rows; depth = d; value = 0; have = false }) table area
   unfolding outcome pending
-  waits-went frs e d area same q i a b m k w less = record {
+  waits-went frs e d area same q i a b f k w less = record {
     same = same ∙ ap (λ (x : List OpenFrame). waits x e d) (sym q);
     less = omega arith;
-    inside = record { source = i .source; area = omega arith; at = b; rows = omega arith; depth = m; waiting = subst Waiting (sym q) w };
-    behind = refl;
-    more = omega arith;
+    inside = record { source = i .source; area = omega arith; at = b; rows = omega arith; depth = f; waiting = subst Waiting (sym q) w };
   }
 
   -- A term is to be read.
   module _ (have : st .have ≡ false) where
-    reads : outcome s table work st
-        ≡ resumed work (st .depth) (term-rows begin close limit (512 - st .depth) here words)
+    reads : outcome m table work st
+        ≡ resumed work (st .depth) (term-rows begin close limit (m .frames - st .depth) here table)
     unfolding outcome pending
     reads = rw (have, outcome, pending)
 
-    pub begin-refused : (r : Refusal) → begin here ≡ Result.refused r → outcome s table work st ≡ refused r
+    pub begin-refused : (r : Refusal) → begin here ≡ Result.refused r → outcome m table work st ≡ refused r
     begin-refused r q =
-        reads ∙ ap (resumed work (st .depth)) (term-refused begin close limit here here words (512 - st .depth) r q)
-        ∙ resume-refused begin close limit (512 - st .depth) (open-frames work (st .depth)) r
+        reads ∙ ap (resumed work (st .depth)) (term-refused begin close limit here here table (m .frames - st .depth) r q)
+        ∙ resume-refused begin close limit (m .frames - st .depth) (open-frames work (st .depth)) r
 
     pub leaf-same : (l : Label) (e : ℕ) → begin here ≡ Result.done (leaf l) (position-at e (st .rows))
-        → outcome s table work st ≡ resumed work (st .depth) (stores l [] e)
+        → outcome m table work st ≡ resumed work (st .depth) (stores l [] e)
     leaf-same l e q =
         reads
-        ∙ ap (resumed work (st .depth)) (term-leaf begin close limit here (position-at e (st .rows)) words (512 - st .depth) l q)
+        ∙ ap (resumed work (st .depth)) (term-leaf begin close limit here (position-at e (st .rows)) table (m .frames - st .depth) l q)
 
-    pub too-deep : (l : Label) (n : ℕ) (e : ℕ) → begin here ≡ Result.done (frame l n) (position-at e (st .rows)) → 512 ≤ st .depth
-        → outcome s table work st ≡ refused (nowhere 7)
+    pub too-deep : (l : Label) (n : ℕ) (e : ℕ) → begin here ≡ Result.done (frame l n) (position-at e (st .rows)) → m .frames ≤ st .depth
+        → outcome m table work st ≡ refused (nowhere 7)
     too-deep l n e q h =
-        let z : 512 - st .depth ≡ 0 = omega arith in
+        let z : m .frames - st .depth ≡ 0 = omega arith in
         reads
         ∙ ap (resumed work (st .depth))
-        (ap (λ (f : ℕ). term-rows begin close limit f here words) z
-        ∙ term-deep begin close limit here (position-at e (st .rows)) words l n q)
-        ∙ resume-refused begin close limit (512 - st .depth) (open-frames work (st .depth)) (nowhere 7)
+        (ap (λ (f : ℕ). term-rows begin close limit f here table) z
+        ∙ term-deep begin close limit here (position-at e (st .rows)) table l n q)
+        ∙ resume-refused begin close limit (m .frames - st .depth) (open-frames work (st .depth)) (nowhere 7)
 
     module _ (arities : Arities begin) (l : Label) (n e : ℕ)
-        (begun : begin here ≡ Result.done (frame l n) (position-at e (st .rows))) (h : st .depth < 512) where
-      opened-same : outcome s table work st ≡ waits (record { label = l; children = [] } ∷ open-frames work (st .depth)) e (st .depth + 1)
+        (begun : begin here ≡ Result.done (frame l n) (position-at e (st .rows))) (h : st .depth < m .frames) where
+      opened-same : outcome m table work st ≡ waits (record { label = l; children = [] } ∷ open-frames work (st .depth)) e (st .depth + 1)
       unfolding resume
       opened-same =
-          let f = 512 - (st .depth + 1) in
-          let z : 512 - st .depth ≡ suc f = omega arith in
+          let f = m .frames - (st .depth + 1) in
+          let z : m .frames - st .depth ≡ suc f = omega arith in
           reads
-          ∙ ap (λ (x : ℕ). resume begin close limit x (open-frames work (st .depth)) (term-rows begin close limit x here words)) z
+          ∙ ap (λ (x : ℕ). resume begin close limit x (open-frames work (st .depth)) (term-rows begin close limit x here table)) z
           ∙ ap (resume begin close limit (suc f) (open-frames work (st .depth)))
-          (term-frame begin close limit arities f here (position-at e (st .rows)) words l n begun)
+          (term-frame begin close limit arities f here (position-at e (st .rows)) table l n begun)
 
-      pub open-went : (i : Inside s work st) (area : List ℕ) → st .at < e → e ≤ length s → length area ≡ length work
+      pub open-went : (i : Inside (m .frames) s work st) (area : List ℕ) → st .at < e → e ≤ length s → length area ≡ length work
           → open-frames area (st .depth + 1) ≡ record { label = l; children = [] } ∷ open-frames work (st .depth)
-          → Went s table work st (record { at = e; rows = st .rows; depth = st .depth + 1; value = 0; have = false }) table area
+          → Went s m table work st (record { at = e; rows = st .rows; depth = st .depth + 1; value = 0; have = false }) table area
       open-went i area a b k q =
-          let m = arities here (position-at e (st .rows)) l n begun in
+          let z = arities here (position-at e (st .rows)) l n begun in
           waits-went (record { label = l; children = [] } ∷ open-frames work (st .depth)) e (st .depth + 1) area opened-same q i (omega arith) b (omega arith) k
           (omega arith, i .waiting) (omega arith)
 
   -- A term is complete and the frame d, which is the last, takes it.
-  module _ (d : ℕ) (have : st .have ≡ true) (deep : st .depth ≡ suc d) (i : Inside s work st) (area : List ℕ)
+  module _ (d : ℕ) (have : st .have ≡ true) (deep : st .depth ≡ suc d) (i : Inside (m .frames) s work st) (area : List ℕ)
       (pushed : open-frames area (suc d) ≡ record { label = frame-at work d .label; children = frame-at work d .children ++ (st .value ∷ []) } ∷ open-frames work d) where
     abbrev f : ℕ
-    f = 512 - suc d
+    f = m .frames - suc d
 
-    taken : outcome s table work st
+    taken : outcome m table work st
         ≡ resume begin close limit (suc f) (open-frames work d)
-        (after-term begin close limit (term-rows begin close limit f) (frame-at work d) (done (st .value) here words))
+        (after-term begin close limit (term-rows begin close limit f) (frame-at work d) (done (st .value) here table))
     unfolding outcome pending resume open-frames
     taken = rw (have, deep, outcome, pending, resume, open-frames)
 
@@ -210,40 +198,40 @@ module _ (s table work : List ℕ) (st : State) where
     others-wait = subst Waiting (sym the-others) (waited .1)
 
     pub more-went : length (frame-at area d .children) < arity-of (frame-at area d .label .kind) → length area ≡ length work
-        → Went s table work st (record { at = st .at; rows = st .rows; depth = st .depth; value = 0; have = false }) table area
+        → Went s m table work st (record { at = st .at; rows = st .rows; depth = st .depth; value = 0; have = false }) table area
     unfolding resume
     more-went h k =
         let g : length (fr .children) < arity-of (fr .label .kind) = subst (λ (x : OpenFrame). length (x .children) < arity-of (x .label .kind)) the-frame h in
         let z : one-if (st .have) ≡ 1 = ap one-if have in
-        subst (λ (x : ℕ). Went s table work st (record { at = st .at; rows = st .rows; depth = x; value = 0; have = false }) table area) (sym deep)
+        subst (λ (x : ℕ). Went s m table work st (record { at = st .at; rows = st .rows; depth = x; value = 0; have = false }) table area) (sym deep)
         (waits-went (fr ∷ open-frames work d) (st .at) (suc d) area
         (taken
         ∙ ap (resume begin close limit (suc f) (open-frames work d))
-        (after-more begin close limit (term-rows begin close limit f) (frame-at work d) (st .value) here words
+        (after-more begin close limit (term-rows begin close limit f) (frame-at work d) (st .value) here table
         (omega (arith, length-append (frame-at work d .children) (st .value ∷ [])))))
         pushed i (omega arith) (i .at) (omega arith) k (g, waited .1) (omega arith))
 
     module _ (h : arity-of (frame-at area d .label .kind) ≤ length (frame-at area d .children)) where
-      last : outcome s table work st
-          ≡ resumed area d (close-row begin close limit (frame-at area d .label) (frame-at area d .children) words (close here))
+      last : outcome m table work st
+          ≡ resumed area d (close-row begin close limit (frame-at area d .label) (frame-at area d .children) table (close here))
       last =
           let g : arity-of (fr .label .kind) ≤ length (fr .children) = subst (λ (x : OpenFrame). arity-of (x .label .kind) ≤ length (x .children)) the-frame h in
-          let z : suc f ≡ 512 - d = omega arith in
+          let z : suc f ≡ m .frames - d = omega arith in
           taken
           ∙ ap (resume begin close limit (suc f) (open-frames work d))
-          (after-last begin close limit (term-rows begin close limit f) (frame-at work d) (st .value) here words
+          (after-last begin close limit (term-rows begin close limit f) (frame-at work d) (st .value) here table
           (omega (arith, waited .0, length-append (frame-at work d .children) (st .value ∷ []))))
           ∙ (λ j. resume begin close limit (z j) (sym the-others j)
-          (close-row begin close limit (sym the-frame j .label) (sym the-frame j .children) words (close here)))
+          (close-row begin close limit (sym the-frame j .label) (sym the-frame j .children) table (close here)))
 
-      pub close-refused : (r : Refusal) → close here ≡ Result.refused r → outcome s table work st ≡ refused r
+      pub close-refused : (r : Refusal) → close here ≡ Result.refused r → outcome m table work st ≡ refused r
       unfolding close-row
       close-refused r q =
-          last ∙ ap (λ (x : Result Token). resumed area d (close-row begin close limit (frame-at area d .label) (frame-at area d .children) words x)) q
-          ∙ resume-refused begin close limit (512 - d) (open-frames area d) r
+          last ∙ ap (λ (x : Result Token). resumed area d (close-row begin close limit (frame-at area d .label) (frame-at area d .children) table x)) q
+          ∙ resume-refused begin close limit (m .frames - d) (open-frames area d) r
 
       pub close-same : (c : Token) (e : ℕ) → close here ≡ Result.done c (position-at e (st .rows))
-          → outcome s table work st ≡ resumed area d (stores (frame-at area d .label) (frame-at area d .children) e)
+          → outcome m table work st ≡ resumed area d (stores (frame-at area d .label) (frame-at area d .children) e)
       unfolding close-row
       close-same c e q =
-          last ∙ ap (λ (x : Result Token). resumed area d (close-row begin close limit (frame-at area d .label) (frame-at area d .children) words x)) q
+          last ∙ ap (λ (x : Result Token). resumed area d (close-row begin close limit (frame-at area d .label) (frame-at area d .children) table x)) q

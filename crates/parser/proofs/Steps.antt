@@ -9,55 +9,53 @@ use lib.ListN.{length, take, length-take}
 use Rattle.token.specs.declared.Lexed.{Lexed}
 use Rattle.token.specs.declared.Token.{Token}
 use Rattle.token.specs.declared.Refusal.{Refusal}
-use Rattle.terms.specs.Forms.{edition-0-1, arity-of}
+use Rattle.terms.specs.Forms.{arity-of}
 use Rattle.terms.specs.Label.{Label}
 use Rattle.terms.specs.Rows.{surface-row}
-use Rattle.rows.specs.Places.{stored-at}
 use Rattle.rows.proofs.Arities.{arity-at-most-six}
 use Rattle.frames.proofs.OpenFrames.{frames-opened, frames-pushed}
 use Rattle.frames.specs.declared.TermFrame.{TermFrame}
 use Rattle.frames.specs.Frames.{frame-at, frame-count, frame-args, term-frame, open-frames, HasFrame, opened, pushed}
 use Rattle.surface.specs.Reader.{nowhere}
-use Rattle.surface.specs.Reading.{beginning, closing, lexed}
-use Rattle.expects.specs.Expects.{position-at, begun, Begins}
-use Rattle.expects.specs.Expects as expects
+use Rattle.surface.specs.Reading.{lexed}
+use Rattle.expects.specs.Expects.{position-at, begun}
 use Rattle.expects.specs.declared.Begun.{Begun}
 use Rattle.parser.specs.TermRows.{refused}
-use Rattle.parser.specs.Machine.{outcome, pushed-term, Inside, Went, Stepped}
+use Rattle.parser.specs.Machine.{Setting, outcome, pushed-term, pushed-row, Inside, Went, Stepped}
 use Rattle.parser.specs.declared.State.{State}
 use Rattle.parser.specs.declared.Step.{Step}
 use Rattle.parser.proofs.States.{last-waits, others-wait, push-stepped, begin-refused, leaf-same, too-deep, open-went, more-went, close-refused, close-same}
-use Rattle.parser.proofs.Readers.{begin-arities, begin-ahead, close-ahead}
+use Rattle.parser.proofs.Readers.{Sound}
 
-module _ (s table work : List ℕ) (st : State) (i : Inside s work st) where
+module _ (s : List ℕ) (m : Setting) (sound : Sound s m) (table work : List ℕ) (st : State) (i : Inside (m .frames) s work st) where
   -- A term is to be read, and x is what it begins with.
-  module _ (x : Begun) (have : st .have ≡ false) (begins : Begins s (st .at) x) where
-    begun-at : (y : Begun) → x ≡ y → beginning edition-0-1 s (position-at (st .at) (st .rows)) ≡ begun (st .rows) y
-    begun-at y e = begins (i .source) (st .rows) ∙ ap (begun (st .rows)) e
+  module _ (x : Begun) (have : st .have ≡ false) (begins : (n : ℕ) → m .begin (position-at (st .at) n) ≡ begun n x) where
+    begun-at : (y : Begun) → x ≡ y → m .begin (position-at (st .at) (st .rows)) ≡ begun (st .rows) y
+    begun-at y e = begins (st .rows) ∙ ap (begun (st .rows)) e
 
-    pub refused-step : (r : Refusal) → x ≡ Begun.Refused r → outcome s table work st ≡ refused r
-    refused-step r e = begin-refused s table work st have r (begun-at _ e)
+    pub refused-step : (r : Refusal) → x ≡ Begun.Refused r → outcome m table work st ≡ refused r
+    refused-step r e = begin-refused s m table work st have r (begun-at _ e)
 
     pub leaf-step : (l : Label) (next : ℕ) (r : Step) (table₁ : List ℕ) → x ≡ Begun.Leaf l next
-        → r ≡ pushed-term table (st .rows) next (st .depth) → table₁ ≡ stored-at 8 table (st .rows) (surface-row (record { label = l; children = [] }))
-        → Stepped s table work st r table₁ work
+        → r ≡ pushed-term (m .limit) (st .rows) next (st .depth) → table₁ ≡ pushed-row (m .limit) table (st .rows) (surface-row (record { label = l; children = [] }))
+        → Stepped s m table work st r table₁ work
     leaf-step l next r table₁ e q t =
         let b = begun-at _ e in
-        let a = begin-ahead s _ _ _ b in
-        push-stepped s table work st l [] next (st .depth) work (leaf-same s table work st have l next b) i (a .past) (a .high) (i .depth) (i .area) (i .waiting) r table₁ q t
+        let a = sound .begins _ _ _ b in
+        push-stepped s m table work st l [] next (st .depth) work (leaf-same s m table work st have l next b) i (a .past) (a .high) (i .depth) (i .area) (i .waiting) r table₁ q t
 
-    pub open-step : (l : Label) (n next : ℕ) (area : List ℕ) → x ≡ Begun.Frame l n next → st .depth < 512 → area ≡ opened work (st .depth) l
+    pub open-step : (l : Label) (n next : ℕ) (area : List ℕ) → x ≡ Begun.Frame l n next → st .depth < m .frames → area ≡ opened work (st .depth) l
         → length area ≡ length work
-        → Went s table work st (record { at = next; rows = st .rows; depth = st .depth + 1; value = 0; have = false }) table area
+        → Went s m table work st (record { at = next; rows = st .rows; depth = st .depth + 1; value = 0; have = false }) table area
     open-step l n next area e d q k =
         let b = begun-at _ e in
-        let a = begin-ahead s _ _ _ b in
-        open-went s table work st have (begin-arities s) l n next b d i area (a .past) (a .high) k
+        let a = sound .begins _ _ _ b in
+        open-went s m table work st have (sound .arities) l n next b d i area (a .past) (a .high) k
         (ap (open-frames area) (add-one (st .depth)) ∙ ap (λ (w : List ℕ). open-frames w (suc (st .depth))) q ∙ frames-opened work (st .depth) (omega (arith, i .area)) l)
 
-    pub deep-step : (l : Label) (n next : ℕ) → x ≡ Begun.Frame l n next → 512 ≤ st .depth → outcome s table work st ≡ refused (nowhere 7)
-    deep-step l n next e m =
-        too-deep s table work st have l n next (begun-at _ e) m
+    pub deep-step : (l : Label) (n next : ℕ) → x ≡ Begun.Frame l n next → m .frames ≤ st .depth → outcome m table work st ≡ refused (nowhere 7)
+    deep-step l n next e h =
+        too-deep s m table work st have l n next (begun-at _ e) h
 
   -- A term is complete, and the frame d, which is the last, takes it.
   module _ (d : ℕ) (have : st .have ≡ true) (deep : st .depth ≡ suc d) where
@@ -84,25 +82,25 @@ module _ (s table work : List ℕ) (st : State) (i : Inside s work st) where
     frames = ap (λ (v : List ℕ). open-frames v (suc d)) q ∙ frames-pushed work d (room d have deep) (st .value) (takes d have deep)
 
     pub more-step : count d have deep area < arity-of (kind d have deep area) → length area ≡ length work
-        → Went s table work st (record { at = st .at; rows = st .rows; depth = st .depth; value = 0; have = false }) table area
-    more-step h k = more-went s table work st d have deep i area frames (omega (arith, counted d have deep area)) k
+        → Went s m table work st (record { at = st .at; rows = st .rows; depth = st .depth; value = 0; have = false }) table area
+    more-step h k = more-went s m table work st d have deep i area frames (omega (arith, counted d have deep area)) k
 
     -- It was its last argument, and x is the token behind it.
-    module _ (h : arity-of (kind d have deep area) ≤ count d have deep area) (x : Lexed) (closes : expects.Reads s (closing s) (st .at) x) where
+    module _ (h : arity-of (kind d have deep area) ≤ count d have deep area) (x : Lexed) (closes : (n : ℕ) → m .close (position-at (st .at) n) ≡ lexed s n x) where
       last : arity-of (kind d have deep area) ≤ length (frame-at area d .children)
       last = omega (arith, counted d have deep area, arity-at-most-six (kind d have deep area))
 
-      pub unclosed-step : (r : Refusal) → x ≡ Lexed.Refused r → outcome s table work st ≡ refused r
-      unclosed-step r e = close-refused s table work st d have deep i area frames last r (closes (st .rows) ∙ ap (lexed s (st .rows)) e)
+      pub unclosed-step : (r : Refusal) → x ≡ Lexed.Refused r → outcome m table work st ≡ refused r
+      unclosed-step r e = close-refused s m table work st d have deep i area frames last r (closes (st .rows) ∙ ap (lexed s (st .rows)) e)
 
       pub close-step : (t : Token) (f : TermFrame) (r : Step) (table₁ : List ℕ) → x ≡ Lexed.Got t → f ≡ term-frame area d → length area ≡ length work
-          → r ≡ pushed-term table (st .rows) (t .end) d
-          → table₁ ≡ stored-at 8 table (st .rows) (surface-row (record { label = f .label; children = take (f .len) (f .args) }))
-          → Stepped s table work st r table₁ area
+          → r ≡ pushed-term (m .limit) (st .rows) (t .end) d
+          → table₁ ≡ pushed-row (m .limit) table (st .rows) (surface-row (record { label = f .label; children = take (f .len) (f .args) }))
+          → Stepped s m table work st r table₁ area
       unfolding frame-at
       close-step t f r table₁ e g k z u =
           let b = closes (st .rows) ∙ ap (lexed s (st .rows)) e in
-          let a = close-ahead s _ _ _ b in
-          push-stepped s table work st (frame-at area d .label) (frame-at area d .children) (t .end) d area (close-same s table work st d have deep i area frames last t (t .end) b)
-          i (a .past) (a .high) (omega arith) (omega arith) (others-wait s table work st d have deep i area frames) r table₁ z
-          (u ∙ ap (λ (v : TermFrame). stored-at 8 table (st .rows) (surface-row (record { label = v .label; children = take (v .len) (v .args) }))) g)
+          let a = sound .closes _ _ _ b in
+          push-stepped s m table work st (frame-at area d .label) (frame-at area d .children) (t .end) d area (close-same s m table work st d have deep i area frames last t (t .end) b)
+          i (a .past) (a .high) (omega arith) (omega arith) (others-wait s m table work st d have deep i area frames) r table₁ z
+          (u ∙ ap (λ (v : TermFrame). pushed-row (m .limit) table (st .rows) (surface-row (record { label = v .label; children = take (v .len) (v .args) }))) g)

@@ -1,51 +1,51 @@
 -- Reading straight into rows gives the rows of the tree that the reading order gives. Assumes nothing.
 use mathlib.Core.Path.{_≡_, refl, sym, _∙_, ap, ap₂, subst}
-use mathlib.Core.List.{List, [], _∷_, _++_, map, append-assoc, append-nil}
+use mathlib.Core.List.{List, [], _∷_, _++_, append-assoc, append-nil}
 use mathlib.Core.Bool.{Bool, true, false}
-use Prim.Native.Nat.{ℕ, zero, suc}
+use Prim.Native.Nat.{ℕ, zero, suc, _+_}
+use native.Mathlib.Omega.{arith}
 use lib.Dec.{ltb}
+use lib.ListN.{length}
 use Rattle.token.specs.declared.Token.{Token}
 use Rattle.terms.specs.Label.{Label}
 use Rattle.terms.specs.Tree.{Forest, nil, Tree, tree, Cell, next, roots, cells}
-use Rattle.terms.specs.Rows.{surface-row, joined}
+use Rattle.terms.specs.Rows.{surface-row}
+use Rattle.terms.proofs.Cells.{next-cells}
+use Rattle.rows.specs.Places.{stored-at}
 use Rattle.surface.specs.Reader.{Position, Result, Reader, after}
 use Rattle.surface.specs.Reading.{Beginning, leaf, frame, store, finish, several, term}
-use Rattle.parser.specs.TermRows.{RowResult, done, refused, store-row, close-row, rest-rows, begin-row, term-rows, as-rows}
+use Rattle.parser.specs.TermRows.{RowResult, done, refused, store-row, close-row, rest-rows, begin-row, term-rows, stored-rows, as-rows}
 use Rattle.expects.proofs.Gives.{Gives}
 use Rattle.parser.proofs.Counting.{Rows, RowsOf, RowsOfTree, several-counted, begins-counted, closes-counted, term-counted}
 
--- Rows as words.
-abbrev row-words : List (Cell Label) → List ℕ
-row-words c = joined (map surface-row c)
+-- Rows behind rows.
+stored-append : (n m : ℕ) (t : List ℕ) (a b : List (Cell Label)) → m ≡ n + length a → stored-rows m (stored-rows n t a) b ≡ stored-rows n t (a ++ b)
+unfolding stored-rows
+stored-append n m t [] b e = ap (λ (k : ℕ). stored-rows k t b) (let q : m ≡ n = omega arith in q)
+stored-append n m t (c ∷ a) b e = stored-append (suc n) m (stored-at 8 t n (surface-row c)) a b (omega arith)
 
-abbrev words : ℕ → Forest Label → List ℕ
-words n a = row-words (cells n a)
-
-words-append : (w : List ℕ) (a b : List (Cell Label)) → w ++ row-words a ++ row-words b ≡ w ++ row-words (a ++ b)
-words-append w [] b = ap (λ (v : List ℕ). v ++ row-words b) (append-nil w)
-words-append w (c ∷ a) b =
-    ap (λ (v : List ℕ). v ++ row-words b) (sym (append-assoc w (surface-row c) (row-words a)))
-    ∙ words-append (w ++ surface-row c) a b
-    ∙ append-assoc w (surface-row c) (row-words (a ++ b))
+-- The table with the rows of trees, the first at place n.
+abbrev kept : ℕ → List ℕ → Forest Label → List ℕ
+kept n w a = stored-rows n w (cells n a)
 
 module _ (beginning : Reader Beginning) (close : Reader Token) (limit : ℕ) where
   -- A form whose arguments were read behind the children that it had: what closing it gives.
   arguments-read : Label → List ℕ → ℕ → List ℕ → Result (Forest Label) → RowResult
-  arguments-read l children n w (Result.done a q) = close-row beginning close limit l (children ++ roots n a) (w ++ words n a) (close q)
+  arguments-read l children n w (Result.done a q) = close-row beginning close limit l (children ++ roots n a) (kept n w a) (close q)
   arguments-read l children n w (Result.refused r) = refused r
 
   store-rows : (b : Bool) (l : Label) (a : Forest Label) (q : Position) (n : ℕ) (w : List ℕ) → ltb (q .rows) limit ≡ b → q .rows ≡ next n a
-      → store-row beginning close limit l (roots n a) q (w ++ words n a) ≡ as-rows n w (store beginning close limit (record { label = l; args = a }) q)
-  unfolding store-row store as-rows
+      → store-row beginning close limit l (roots n a) q (kept n w a) ≡ as-rows n w (store beginning close limit (record { label = l; args = a }) q)
+  unfolding store-row store as-rows stored-rows
   store-rows true l a q n w e h =
       let c : Cell Label = record { label = l; children = roots n a } in
       rw (e, store-row, store)
       (ap₂ (λ (id : ℕ) (v : List ℕ). done id (record { offset = q .offset; rows = suc (q .rows) }) v) h
-      (ap (λ (v : List ℕ). w ++ words n a ++ v) (sym (append-nil (surface-row c))) ∙ words-append w (cells n a) (c ∷ [])))
+      (stored-append n (q .rows) w (cells n a) (c ∷ []) (h ∙ next-cells n a)))
   store-rows false l a q n w e h = rw (e, store-row, store)
 
   close-rows : (x : Result Token) (l : Label) (a : Forest Label) (n m : ℕ) (w : List ℕ) → Gives (Rows m) x → m ≡ next n a
-      → close-row beginning close limit l (roots n a) (w ++ words n a) x
+      → close-row beginning close limit l (roots n a) (kept n w a) x
       ≡ as-rows n w (after x (λ c. store beginning close limit (record { label = l; args = a })))
   unfolding close-row as-rows
   close-rows (Result.done c q) l a n m w h e = store-rows (ltb (q .rows) limit) l a q n w refl (h ∙ e)
@@ -53,7 +53,7 @@ module _ (beginning : Reader Beginning) (close : Reader Token) (limit : ℕ) whe
 
   -- One argument before others.
   more-read : (l : Label) (children : List ℕ) (n : ℕ) (w : List ℕ) (t : Tree Label) (y : Result (Forest Label))
-      → arguments-read l (children ++ (next n (t .args) ∷ [])) (suc (next n (t .args))) (w ++ words n (tree t nil)) y
+      → arguments-read l (children ++ (next n (t .args) ∷ [])) (suc (next n (t .args))) (kept n w (tree t nil)) y
       ≡ arguments-read l children n w (after y (λ r. Result.done (tree t r)))
   unfolding arguments-read
   more-read l children n w t (Result.done r q) =
@@ -61,8 +61,8 @@ module _ (beginning : Reader Beginning) (close : Reader Token) (limit : ℕ) whe
       let c : Cell Label = record { label = t .label; children = roots n (t .args) } in
       ap₂ (λ (i v : List ℕ). close-row beginning close limit l i v (close q))
       (append-assoc children (id ∷ []) (roots (suc id) r))
-      (words-append w (cells n (tree t nil)) (cells (suc id) r)
-      ∙ ap (λ (i : List (Cell Label)). w ++ row-words i) (append-assoc (cells n (t .args)) (c ∷ []) (cells (suc id) r)))
+      (stored-append n (suc id) w (cells n (tree t nil)) (cells (suc id) r) (next-cells n (tree t nil))
+      ∙ ap (stored-rows n w) (append-assoc (cells n (t .args)) (c ∷ []) (cells (suc id) r)))
   more-read l children n w t (Result.refused r) = refl
 
   module _ (R : Position → List ℕ → RowResult) (one : Reader (Tree Label)) (same : (p : Position) (w : List ℕ) → R p w ≡ as-rows (p .rows) w (one p))
@@ -78,15 +78,14 @@ module _ (beginning : Reader Beginning) (close : Reader Token) (limit : ℕ) whe
         let n = p .rows in
         let id = next n (t .args) in
         rw (s, rest-rows, e, several)
-        (ih (children ++ (id ∷ [])) q (w ++ words n (tree t nil))
-        ∙ ap (λ (k : ℕ). arguments-read l (children ++ (id ∷ [])) k (w ++ words n (tree t nil)) (several beginning close limit one m q)) c
+        (ih (children ++ (id ∷ [])) q (kept n w (tree t nil))
+        ∙ ap (λ (k : ℕ). arguments-read l (children ++ (id ∷ [])) k (kept n w (tree t nil)) (several beginning close limit one m q)) c
         ∙ more-read l children n w t (several beginning close limit one m q))
 
     arguments-rows : (m : ℕ) (l : Label) (children : List ℕ) (p : Position) (w : List ℕ)
         → rest-rows beginning close limit R m l children p w ≡ arguments-read l children (p .rows) w (several beginning close limit one m p)
-    unfolding rest-rows several arguments-read
-    arguments-rows zero l children p w =
-        ap₂ (λ (c v : List ℕ). close-row beginning close limit l c v (close p)) (sym (append-nil children)) (sym (append-nil w))
+    unfolding rest-rows several arguments-read stored-rows
+    arguments-rows zero l children p w = ap (λ (c : List ℕ). close-row beginning close limit l c w (close p)) (sym (append-nil children))
     arguments-rows (suc m) l children p w = argument-by (one p) m l (arguments-rows m l) children p w refl (same p w) (counted p)
 
   module _ (begins : (p q : Position) (b : Beginning) → beginning p ≡ Result.done b q → q .rows ≡ p .rows)
@@ -103,10 +102,10 @@ module _ (beginning : Reader Beginning) (close : Reader Token) (limit : ℕ) whe
 
       begin-by : (x : Result Beginning) (n : ℕ) (w : List ℕ) → Gives (Rows n) x
           → begin-row beginning close limit R w x ≡ as-rows n w (after x (finish beginning close limit arguments))
-      unfolding begin-row finish as-rows
+      unfolding begin-row finish as-rows stored-rows
       begin-by (Result.refused r) n w h = refl
       begin-by (Result.done (leaf l) q) n w h =
-          ap (store-row beginning close limit l [] q) (sym (append-nil w)) ∙ store-rows (ltb (q .rows) limit) l nil q n w refl h
+          store-rows (ltb (q .rows) limit) l nil q n w refl h
       begin-by (Result.done (frame l m) q) n w h =
           same l m q w
           ∙ ap (λ (k : ℕ). arguments-read l [] k w (arguments m q)) h

@@ -1,6 +1,6 @@
--- Terms read straight into rows: the reading order of `surface`, with each completed term as a row of words. The contracts of the
--- frame reader's steps cite it; the law in proofs/ says that it gives the rows of the tree that the reading order gives. Assumes nothing.
-use mathlib.Core.List.{List, [], _∷_, _++_, map}
+-- Terms read straight into a table of rows: the reading order of `surface`, with each completed term stored as a row of words. The contracts
+-- of the frame reader's steps cite it; the law in proofs/ says that it stores the rows of the tree that the reading order gives. Assumes nothing.
+use mathlib.Core.List.{List, [], _∷_, _++_}
 use mathlib.Core.Bool.{true, false}
 use Prim.Native.Nat.{ℕ, zero, suc, _-_}
 use lib.Dec.{ltb}
@@ -9,24 +9,25 @@ use Rattle.token.specs.declared.Token.{Token}
 use Rattle.token.specs.declared.Refusal.{Refusal}
 use Rattle.terms.specs.Forms.{arity-of}
 use Rattle.terms.specs.Label.{Label}
-use Rattle.terms.specs.Tree.{Tree, nil, tree, next, cells}
-use Rattle.terms.specs.Rows.{surface-row, joined}
+use Rattle.terms.specs.Tree.{Tree, nil, tree, Cell, next, cells}
+use Rattle.terms.specs.Rows.{surface-row}
 use Rattle.surface.specs.Reader.{Position, Result, Reader, nowhere}
 use Rattle.surface.specs.Reading.{Beginning, leaf, frame}
+use Rattle.rows.specs.Places.{stored-at}
 use Rattle.frames.specs.Frames.{OpenFrame}
 
--- A term that was read: its row, where reading goes on, and the words of all rows so far; or the refusal.
+-- A term that was read: its row, where reading goes on, and the table; or the refusal.
 pub data RowResult : Type 0 where
-  done : (row : ℕ) → Position → (words : List ℕ) → RowResult
+  done : (row : ℕ) → Position → (table : List ℕ) → RowResult
   refused : Refusal → RowResult
 
 -- Given the readers of what a term begins with and of what closes a form, and the number of rows that there is room for.
 module _ (beginning : Reader Beginning) (close : Reader Token) (limit : ℕ) where
-  -- A completed term becomes the next row.
+  -- A completed term becomes the next row. Storing is total: what the table has no place for is only counted.
   unfoldable pub store-row : Label → List ℕ → Position → List ℕ → RowResult
   store-row l children p w =
       elim (ltb (p .rows) limit) [
-        | true ↦ done (p .rows) (record { offset = p .offset; rows = suc (p .rows) }) (w ++ surface-row (record { label = l; children = children }))
+        | true ↦ done (p .rows) (record { offset = p .offset; rows = suc (p .rows) }) (stored-at 8 w (p .rows) (surface-row (record { label = l; children = children })))
         | false ↦ refused (nowhere 8)
       ]
 
@@ -61,7 +62,12 @@ module _ (beginning : Reader Beginning) (close : Reader Token) (limit : ℕ) whe
   resume f [] o = o
   resume f (fr ∷ frs) o = resume (suc f) frs (after-term (term-rows f) fr o)
 
--- The rows of a tree that was read from the position p on, behind the words w.
+-- Rows stored one behind the other, the first at place n.
+unfoldable pub stored-rows : ℕ → List ℕ → List (Cell Label) → List ℕ
+stored-rows n t [] = t
+stored-rows n t (c ∷ l) = stored-rows (suc n) (stored-at 8 t n (surface-row c)) l
+
+-- The rows of a tree that was read behind n rows.
 unfoldable pub as-rows : ℕ → List ℕ → Result (Tree Label) → RowResult
-as-rows n w (Result.done t q) = done (next n (t .args)) q (w ++ joined (map surface-row (cells n (tree t nil))))
+as-rows n w (Result.done t q) = done (next n (t .args)) q (stored-rows n w (cells n (tree t nil)))
 as-rows n w (Result.refused r) = refused r

@@ -1,18 +1,23 @@
 // The reader of terms and declarations: a loop over a state by value, with rows and open frames in lent tables.
 // The port of `Parser` in surface/parser.rs.
 use expects::Begun;
+use expects::Format;
 use token::Lexed;
-use token::Place;
 use token::Refusal;
 ghost use mathlib.Core.Path.{_≡_};
 ghost use mathlib.Core.Bool.{true, false};
 ghost use Prim.Native.Nat.{_<_, _≤_};
-ghost use Rattle.rows.specs.Places.{stored-at};
-ghost use Rattle.surface.specs.Reader.{nowhere};
-ghost use Rattle.parser.specs.Machine.{pushed-term, ended, Inside, Stepped, ready, ReadsTerm};
+ghost use Rattle.expects.specs.Formats.{edition};
+ghost use Rattle.parser.specs.Machine.{surface, pushed-term, pushed-row, ended, Inside, Stepped, ready, ReadsTerm};
 
 // "more than 512 frames open in one term" are refused.
 const FRAMES: usize = 512;
+
+// The words of so many frames.
+const AREA: usize = 5632;
+
+// What the words of a row can count.
+const LONGEST: usize = 4294967295;
 
 // Between two steps of reading a term: where reading goes on, how many rows are stored, how many frames are open,
 // and whether a term has just been completed, with its row.
@@ -35,22 +40,21 @@ pub enum TermRead {
     Refused(Refusal),
 }
 
-fn refusal(class: u8) -> Refusal
-    ensures { λ r. ⌜ r ≡ nowhere class ⌝ }
+// A completed term becomes the next row, where there is room for one more.
+fn push_term(
+    table: &mut [u32],
+    rows: usize,
+    row: [u32; 8],
+    at: usize,
+    depth: usize,
+    limit: usize,
+) -> Step
+    requires { ⌜ rows ≤ 4294967295 ⌝ }
+    ensures { λ r. ⌜ r ≡ pushed-term limit rows at depth ⌝ }
+    ensures { λ r. ⌜ now (table .exit) ≡ pushed-row limit (now (table .entry)) rows row ⌝ }
 {
-    Refusal {
-        class: class,
-        place: Place::Nowhere,
-    }
-}
-
-// A completed term becomes the next row.
-fn push_term(table: &mut [u32], rows: usize, row: [u32; 8], at: usize, depth: usize) -> Step
-    requires { ⌜ rows ≤ 65535 ⌝ }
-    ensures { λ r. ⌜ r ≡ pushed-term (now (table .entry)) rows at depth ⌝ }
-    ensures { λ r. ⌜ now (table .exit) ≡ stored-at 8 (now (table .entry)) rows row ⌝ }
-{
-    if rows::store_row(table, rows, row) {
+    if rows < limit {
+        rows::store_row(table, rows, row);
         return Step::Go(State {
             at: at,
             rows: rows + 1,
@@ -59,25 +63,32 @@ fn push_term(table: &mut [u32], rows: usize, row: [u32; 8], at: usize, depth: us
             have: true,
         });
     }
-    Step::Refused(refusal(8))
+    Step::Refused(expects::refused_nowhere(8))
 }
 
 // A term is to be read: all of it, or a new frame.
-fn term_step(s: &[u8], table: &mut [u32], work: &mut [u32], st: State) -> Step
-    requires { ⌜ Inside (now s) (now work) st ⌝ }
+fn term_step(
+    s: &[u8],
+    table: &mut [u32],
+    work: &mut [u32],
+    st: State,
+    limit: usize,
+    format: Format,
+) -> Step
+    requires { ⌜ Inside 512 (now s) (now work) st ⌝ }
     requires { ⌜ st .have ≡ false ⌝ }
-    ensures { λ r. ⌜ Stepped (now (s .entry)) (now (table .entry)) (now (work .entry)) st r (now (table .exit)) (now (work .exit)) ⌝ }
+    ensures { λ r. ⌜ Stepped (now (s .entry)) (surface (edition format) (now (s .entry)) limit) (now (table .entry)) (now (work .entry)) st r (now (table .exit)) (now (work .exit)) ⌝ }
 {
     let at = st.at;
     let rows = st.rows;
     let depth = st.depth;
-    let begun = expects::begin_term(s, at);
+    let begun = expects::begin_term(s, at, format);
     match begun {
         Begun::Refused(r) => Step::Refused(r),
         Begun::Leaf(label, next) => {
             let none = [0u32; 6];
             let row = rows::surface_row(label, none, 0);
-            push_term(table, rows, row, next, depth)
+            push_term(table, rows, row, next, depth, limit)
         }
         Begun::Frame(label, _, next) => {
             if depth < FRAMES {
@@ -90,17 +101,24 @@ fn term_step(s: &[u8], table: &mut [u32], work: &mut [u32], st: State) -> Step
                     have: false,
                 });
             }
-            Step::Refused(refusal(7))
+            Step::Refused(expects::refused_nowhere(7))
         }
     }
 }
 
 // A term is complete and a frame is open, which takes it. With its last argument the form is complete.
-fn value_step(s: &[u8], table: &mut [u32], work: &mut [u32], st: State) -> Step
-    requires { ⌜ Inside (now s) (now work) st ⌝ }
+fn value_step(
+    s: &[u8],
+    table: &mut [u32],
+    work: &mut [u32],
+    st: State,
+    limit: usize,
+    format: Format,
+) -> Step
+    requires { ⌜ Inside 512 (now s) (now work) st ⌝ }
     requires { ⌜ st .have ≡ true ⌝ }
     requires { ⌜ 0 < st .depth ⌝ }
-    ensures { λ r. ⌜ Stepped (now (s .entry)) (now (table .entry)) (now (work .entry)) st r (now (table .exit)) (now (work .exit)) ⌝ }
+    ensures { λ r. ⌜ Stepped (now (s .entry)) (surface (edition format) (now (s .entry)) limit) (now (table .entry)) (now (work .entry)) st r (now (table .exit)) (now (work .exit)) ⌝ }
 {
     let at = st.at;
     let rows = st.rows;
@@ -126,22 +144,29 @@ fn value_step(s: &[u8], table: &mut [u32], work: &mut [u32], st: State) -> Step
             let label = f.label;
             let args = f.args;
             let row = rows::surface_row(label, args, f.len);
-            push_term(table, rows, row, t.end, d)
+            push_term(table, rows, row, t.end, d, limit)
         }
     }
 }
 
 // A term to be read, or one that an open frame takes.
-fn next_step(s: &[u8], table: &mut [u32], work: &mut [u32], st: State) -> Step
-    requires { ⌜ Inside (now s) (now work) st ⌝ }
+fn next_step(
+    s: &[u8],
+    table: &mut [u32],
+    work: &mut [u32],
+    st: State,
+    limit: usize,
+    format: Format,
+) -> Step
+    requires { ⌜ Inside 512 (now s) (now work) st ⌝ }
     requires { ⌜ ended st ≡ false ⌝ }
-    ensures { λ r. ⌜ Stepped (now (s .entry)) (now (table .entry)) (now (work .entry)) st r (now (table .exit)) (now (work .exit)) ⌝ }
+    ensures { λ r. ⌜ Stepped (now (s .entry)) (surface (edition format) (now (s .entry)) limit) (now (table .entry)) (now (work .entry)) st r (now (table .exit)) (now (work .exit)) ⌝ }
 {
     let have = st.have;
     if have {
-        return value_step(s, table, work, st);
+        return value_step(s, table, work, st, limit, format);
     }
-    term_step(s, table, work, st)
+    term_step(s, table, work, st, limit, format)
 }
 
 // A term is complete and no frame is open.
@@ -159,10 +184,10 @@ fn is_ended(st: State) -> bool
 fn is_ready(source: usize, area: usize, at: usize, rows: usize) -> bool
     ensures { λ r. ⌜ r ≡ ready source area at rows ⌝ }
 {
-    if 65535 < source {
+    if LONGEST < source {
         return false;
     }
-    if area < 16384 {
+    if area < AREA {
         return false;
     }
     if source < at {
@@ -171,12 +196,21 @@ fn is_ready(source: usize, area: usize, at: usize, rows: usize) -> bool
     rows <= at
 }
 
-// The port of `parse_term`: a whole type or body from `at` on, behind the rows that are stored.
-pub fn read_term(s: &[u8], table: &mut [u32], work: &mut [u32], at: usize, rows: usize) -> TermRead
-    ensures { λ r. ⌜ ReadsTerm (now (s .entry)) (now (table .entry)) (now (work .entry)) at rows r (now (table .exit)) ⌝ }
+// The port of `parse_term`: a whole type or body of a format from `at` on, behind the rows that are stored, where there is room for
+// `limit` rows. A table that has no place for them leaves them out, and they are counted all the same.
+pub fn read_term(
+    s: &[u8],
+    table: &mut [u32],
+    work: &mut [u32],
+    at: usize,
+    rows: usize,
+    limit: usize,
+    format: Format,
+) -> TermRead
+    ensures { λ r. ⌜ ReadsTerm (edition format) limit (now (s .entry)) (now (table .entry)) (now (work .entry)) at rows r (now (table .exit)) ⌝ }
 {
     if !is_ready(s.len(), work.len(), at, rows) {
-        return TermRead::Refused(refusal(11));
+        return TermRead::Refused(expects::refused_nowhere(11));
     }
     let mut st = State {
         at: at,
@@ -193,7 +227,7 @@ pub fn read_term(s: &[u8], table: &mut [u32], work: &mut [u32], at: usize, rows:
                 next: st.at,
             };
         }
-        let r = next_step(s, table, work, st);
+        let r = next_step(s, table, work, st, limit, format);
         match r {
             Step::Go(t) => {
                 st = t;

@@ -153,7 +153,12 @@ pub extern "C" fn sulyterom_parse(
     declarations: &mut [u32],
     work: &mut [u32],
 ) -> usize
-    ensures { λ r. ⌜ CountsRows (now (s .entry)) (tables (now (surface .entry)) [] (now (declarations .entry)) (now (work .entry))) r (tables (now (surface .exit)) [] (now (declarations .exit)) (now (work .exit))) ⌝ }
+    ensures { λ r. ⌜
+        CountsRows (now (s .entry))
+        (tables (now (surface .entry)) [] (now (declarations .entry)) (now (work .entry)))
+        r
+        (tables (now (surface .exit)) [] (now (declarations .exit)) (now (work .exit)))
+        ⌝ }
 {
     let read = loader::parse_surface(s, surface, declarations, work);
     match read {

@@ -6,7 +6,6 @@ use Prim.Native.Nat.{ℕ, zero, suc, _+_, _≤_}
 use native.Mathlib.Omega.{arith}
 use lib.ListN.{length}
 use Rattle.token.specs.declared.Token.{Token}
-use Rattle.terms.specs.Forms.{edition-0-1}
 use Rattle.terms.specs.Label.{Label, Declaration, trees}
 use Rattle.terms.specs.Tree.{Forest, nil, Tree, tree, next}
 use Rattle.surface.specs.Reader.{Position, done}
@@ -17,7 +16,9 @@ use Rattle.expects.proofs.Gives.{Gives, given, gives-after}
 use Rattle.expects.proofs.Ahead.{TokenAhead, closing-ahead, atom-ahead, name-ahead}
 use Rattle.parser.proofs.Counting.{gives}
 use Rattle.parser.proofs.Growth.{term-grown}
-use Rattle.parser.proofs.Readers.{begin-ahead, close-ahead}
+use Rattle.parser.proofs.Readers.{surface-sound}
+use Rattle.expects.specs.declared.Format.{Format}
+use Rattle.expects.specs.Formats.{edition}
 use Rattle.reader.specs.ModuleWords.{whole-term, one-body, named-declaration, one-declaration, body-trees}
 
 -- From p to q the trees f are read.
@@ -28,7 +29,7 @@ pub record Onward (s : List ℕ) (limit : ℕ) (p : Position) (f : Forest Label)
   pub rows : q .rows ≡ next (p .rows) f
   pub room : p .rows ≤ limit → q .rows ≤ limit
 
-module _ (s : List ℕ) (limit : ℕ) where
+module _ (format : Format) (s : List ℕ) (limit : ℕ) where
   stays : (p : Position) → Onward s limit p nil p
   stays p = record { past = omega arith; high = λ h. h; slow = omega arith; rows = refl; room = λ h. h }
 
@@ -48,44 +49,44 @@ module _ (s : List ℕ) (limit : ℕ) where
   abbrev TreeBehind : Position → Tree Label → Position → Type 0
   TreeBehind p t q = Onward s limit p (tree t nil) q
 
-  term-behind : (p : Position) → Gives (TreeBehind p) (whole-term s limit p)
+  term-behind : (p : Position) → Gives (TreeBehind p) (whole-term format s limit p)
   term-behind p =
-      gives (TreeBehind p) (whole-term s limit p)
+      gives (TreeBehind p) (whole-term format s limit p)
       (λ t q e.
-      let g = term-grown (beginning edition-0-1 s) (closing s) limit s (begin-ahead s) (close-ahead s) 512 p q t e in
-      let r = term-done edition-0-1 s limit 512 p q t e in
+      let g = term-grown (beginning (edition format) s) (closing s) limit s (surface-sound format s limit .begins) (surface-sound format s limit .closes) 512 p q t e in
+      let r = term-done (edition format) s limit 512 p q t e in
       record { past = omega arith; high = λ h. g .high; slow = g .slow; rows = r .rows; room = λ h. r .room })
 
   abbrev BodyBehind : Position → Option (Tree Label) → Position → Type 0
   BodyBehind p b q = Onward s limit p (body-trees b) q
 
-  body-behind : (j : ℕ) (p : Position) → Gives (BodyBehind p) (one-body s limit j p)
+  body-behind : (j : ℕ) (p : Position) → Gives (BodyBehind p) (one-body format s limit j p)
   unfolding body
   body-behind zero p = stays p
-  body-behind (suc j) p = gives-after (TreeBehind p) (BodyBehind p) (whole-term s limit p) _ (term-behind p) (λ b q a. a)
+  body-behind (suc j) p = gives-after (TreeBehind p) (BodyBehind p) (whole-term format s limit p) _ (term-behind p) (λ b q a. a)
 
   abbrev DeclarationBehind : Position → Declaration → Position → Type 0
   DeclarationBehind p d q = Onward s limit p (trees d) q
 
-  declared-behind : (t : Token) (kind : ℕ) (p q : Position) → TokenAhead s p t q → Gives (DeclarationBehind p) (named-declaration s limit t kind q)
+  declared-behind : (t : Token) (kind : ℕ) (p q : Position) → TokenAhead s p t q → Gives (DeclarationBehind p) (named-declaration format s limit t kind q)
   unfolding declared
   declared-behind t zero p q h = tt
   declared-behind t (suc j) p q h =
-      gives-after (TokenAhead s q) (DeclarationBehind p) (name edition-0-1 s q) _ (name-ahead s q edition-0-1)
-      (λ x q₁ a₁. gives-after (TreeBehind q₁) (DeclarationBehind p) (whole-term s limit q₁) _ (term-behind q₁)
-      (λ a q₂ a₂. gives-after (BodyBehind q₂) (DeclarationBehind p) (one-body s limit j q₂) _ (body-behind j q₂)
+      gives-after (TokenAhead s q) (DeclarationBehind p) (name (edition format) s q) _ (name-ahead s q (edition format))
+      (λ x q₁ a₁. gives-after (TreeBehind q₁) (DeclarationBehind p) (whole-term format s limit q₁) _ (term-behind q₁)
+      (λ a q₂ a₂. gives-after (BodyBehind q₂) (DeclarationBehind p) (one-body format s limit j q₂) _ (body-behind j q₂)
       (λ b q₃ a₃. gives-after (TokenAhead s q₃) (DeclarationBehind p) (closing s q₃) _ (closing-ahead s q₃)
       (λ c q₄ a₄. token-first p q q₄ t _ h (token-first q q₁ q₄ x _ a₁ (token-last q₁ q₃ q₄ _ c (tree-first q₁ q₂ q₃ a (body-trees b) a₂ a₃) a₄))))))
 
-  declaration-behind : (p : Position) → Gives (DeclarationBehind p) (one-declaration s limit p)
+  declaration-behind : (p : Position) → Gives (DeclarationBehind p) (one-declaration format s limit p)
   unfolding declaration
   declaration-behind p =
       gives-after (TokenAhead s p) (DeclarationBehind p) (atom s p) _ (atom-ahead s p) (λ t q a. declared-behind t (declaration-kind (text s t)) p q a)
 
 -- The same, of what was read.
-module _ (s : List ℕ) (limit : ℕ) (p q : Position) where
-  pub term-onward : (t : Tree Label) → whole-term s limit p ≡ done t q → Onward s limit p (tree t nil) q
-  term-onward t e = given (TreeBehind s limit p) (term-behind s limit p) e
+module _ (format : Format) (s : List ℕ) (limit : ℕ) (p q : Position) where
+  pub term-onward : (t : Tree Label) → whole-term format s limit p ≡ done t q → Onward s limit p (tree t nil) q
+  term-onward t e = given (TreeBehind format s limit p) (term-behind format s limit p) e
 
-  pub declaration-onward : (d : Declaration) → one-declaration s limit p ≡ done d q → Onward s limit p (trees d) q
-  declaration-onward d e = given (DeclarationBehind s limit p) (declaration-behind s limit p) e
+  pub declaration-onward : (d : Declaration) → one-declaration format s limit p ≡ done d q → Onward s limit p (trees d) q
+  declaration-onward d e = given (DeclarationBehind format s limit p) (declaration-behind format s limit p) e

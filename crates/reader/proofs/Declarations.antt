@@ -1,5 +1,5 @@
 -- A declaration by its parts: what the reading order gives, and the words that are stored. Assumes nothing.
-use mathlib.Core.Path.{_≡_, refl, sym, _∙_, ap, ap₂}
+use mathlib.Core.Path.{_≡_, refl, sym, _∙_, ap, ap₂, subst}
 use mathlib.Core.List.{List, [], _∷_, _++_}
 use mathlib.Core.Option.{Option, none, some}
 use Prim.Native.Nat.{ℕ, suc, _+_, _-_, _*_, _/_, _≤_, _<_}
@@ -9,7 +9,6 @@ use Rattle.token.specs.declared.Token.{Token}
 use Rattle.token.specs.declared.Refusal.{Refusal}
 use Rattle.token.specs.declared.Lexed.{Lexed}
 use Rattle.token.specs.declared.Lexed.the-variants.{Got, Refused}
-use Rattle.terms.specs.Forms.{edition-0-1}
 use Rattle.terms.specs.Label.{Label, Declaration, trees}
 use Rattle.terms.specs.Tree.{nil, Tree, tree, next, roots}
 use Rattle.terms.specs.Rows.{pad, read-record}
@@ -19,12 +18,16 @@ use Rattle.tables.specs.Tables.{with-words}
 use Rattle.rows.specs.Places.{stored-at}
 use Rattle.rows.proofs.Storing.{stored-at-place}
 use Rattle.expects.specs.Expects.{position-at, Reads}
+use Rattle.parser.proofs.StoredRows.{with-more-words}
+use Rattle.expects.specs.declared.Format.{Format}
+use Rattle.expects.specs.Formats.{edition}
+use Rattle.reader.specs.declared.Limits.{Limits}
 use Rattle.reader.specs.declared.DeclarationRead.{DeclarationRead}
 use Rattle.reader.specs.ModuleWords.{whole-term, one-body, named-declaration, forest-words, body-trees, body-row}
 use Rattle.reader.specs.Parts.{Finishes}
-use Rattle.reader.specs.Reads.{Declares}
+use Rattle.reader.specs.Reads.{Holds, Declares}
 use Rattle.reader.proofs.Ahead.{Onward, term-onward}
-use Rattle.reader.proofs.Words.{length-forest, forest-split, with-more-words}
+use Rattle.reader.proofs.Words.{length-forest, forest-split}
 use Rattle.reader.proofs.Parts.{TypeRead, BodyRead}
 
 -- The end of a declaration, where x is read for its closing parenthesis.
@@ -37,26 +40,26 @@ module _ (s : List ℕ) (at n k : ℕ) (list words : List ℕ) (x : Lexed) (h : 
   end-got c e list₁ i = rw (h n, e) (refl, i)
 
 -- A declaration of kind 1 + j behind its word, by its parts.
-module _ (s : List ℕ) (limit : ℕ) (t : Token) (j at n : ℕ) where
+module _ (format : Format) (s : List ℕ) (limit : ℕ) (t : Token) (j at n : ℕ) where
   abbrev pub answer : Result Declaration
-  answer = named-declaration s limit t (suc j) (position-at at n)
+  answer = named-declaration format s limit t (suc j) (position-at at n)
 
-  module _ (x : Lexed) (h : Reads s (name edition-0-1 s) at x) where
+  module _ (x : Lexed) (h : Reads s (name (edition format) s) at x) where
     pub name-refused : (r : Refusal) → x ≡ Refused r → answer ≡ refused r
     unfolding declared
     name-refused r e = rw (h n, e)
 
     module _ (m : Token) (e : x ≡ Got m) where
-      pub type-refused : (r : Refusal) → whole-term s limit (position-at (m .end) n) ≡ refused r → answer ≡ refused r
+      pub type-refused : (r : Refusal) → whole-term format s limit (position-at (m .end) n) ≡ refused r → answer ≡ refused r
       unfolding declared
       type-refused r q = rw (h n, e, q)
 
-      module _ (a : Tree Label) (at₁ n₁ : ℕ) (q₁ : whole-term s limit (position-at (m .end) n) ≡ done a (position-at at₁ n₁)) where
-        pub body-refused : (r : Refusal) → one-body s limit j (position-at at₁ n₁) ≡ refused r → answer ≡ refused r
+      module _ (a : Tree Label) (at₁ n₁ : ℕ) (q₁ : whole-term format s limit (position-at (m .end) n) ≡ done a (position-at at₁ n₁)) where
+        pub body-refused : (r : Refusal) → one-body format s limit j (position-at at₁ n₁) ≡ refused r → answer ≡ refused r
         unfolding declared
         body-refused r q = rw (h n, e, q₁, q)
 
-        module _ (b : Option (Tree Label)) (at₂ n₂ : ℕ) (q₂ : one-body s limit j (position-at at₁ n₁) ≡ done b (position-at at₂ n₂)) where
+        module _ (b : Option (Tree Label)) (at₂ n₂ : ℕ) (q₂ : one-body format s limit j (position-at at₁ n₁) ≡ done b (position-at at₂ n₂)) where
           pub close-refused : (r : Refusal) → closing s (position-at at₂ n₂) ≡ refused r → answer ≡ refused r
           unfolding declared
           close-refused r q = rw (h n, e, q₁, q₂, q)
@@ -66,9 +69,9 @@ module _ (s : List ℕ) (limit : ℕ) (t : Token) (j at n : ℕ) where
           unfolding declared
           declared-done c p q = rw (h n, e, q₁, q₂, q)
 
-pub stops : (y : Result Declaration) (x : Refusal) (n k : ℕ) (table list table₁ list₁ : List ℕ) → y ≡ refused x
-    → Declares y n k table list (DeclarationRead.Refused x) table₁ list₁
-stops y x n k table list table₁ list₁ e = rw e refl
+pub stops : (limits : Limits) (y : Result Declaration) (x : Refusal) (n k : ℕ) (table list table₁ list₁ : List ℕ) → y ≡ refused x
+    → Declares limits y n k table list (DeclarationRead.Refused x) table₁ list₁
+stops limits y x n k table list table₁ list₁ e = rw e refl
 
 -- The words of a record.
 body-word : (n : ℕ) (b : Option (Tree Label)) → body-row n b ∷ [] ≡ pad 1 (roots n (body-trees b))
@@ -76,12 +79,12 @@ body-word n none = refl
 body-word n (some b) = refl
 
 -- A declaration whose parts were read and whose end was asked for.
-module _ (s table list : List ℕ) (at n k : ℕ) (t : Token) (j : ℕ) (x : Lexed) (h : Reads s (name edition-0-1 s) at x) (m : Token) (e : x ≡ Got m)
-    (row n₁ at₁ : ℕ) (table₁ : List ℕ) (a : TypeRead (whole-term s (length table / 8) (position-at (m .end) n)) n table row n₁ at₁ table₁)
-    (body n₂ at₂ : ℕ) (table₂ : List ℕ) (b : BodyRead (one-body s (length table / 8) j (position-at at₁ n₁)) n₁ table₁ body n₂ at₂ table₂)
-    (stored : n ≤ length table / 8) (room : k < length list / 5) where
+module _ (format : Format) (limits : Limits) (s table list : List ℕ) (at n k : ℕ) (t : Token) (j : ℕ) (x : Lexed) (h : Reads s (name (edition format) s) at x) (m : Token) (e : x ≡ Got m)
+    (row n₁ at₁ : ℕ) (table₁ : List ℕ) (long : length table₁ ≡ length table) (a : TypeRead (limits .rows) (whole-term format s (limits .rows) (position-at (m .end) n)) n table row n₁ at₁ table₁)
+    (body n₂ at₂ : ℕ) (table₂ : List ℕ) (b : BodyRead (limits .rows) (one-body format s (limits .rows) j (position-at at₁ n₁)) n₁ table₁ body n₂ at₂ table₂)
+    (stored : n ≤ limits .rows) (room : k < limits .declarations) where
   abbrev limit : ℕ
-  limit = length table / 8
+  limit = limits .rows
 
   abbrev words : List ℕ
   words = suc j ∷ m .start ∷ (m .end - m .start) ∷ row ∷ body ∷ []
@@ -90,17 +93,17 @@ module _ (s table list : List ℕ) (at n k : ℕ) (t : Token) (j : ℕ) (x : Lex
   made = record { kind = suc j; start = m .start; length = m .end - m .start; type = a .type; body = b .body }
 
   onward : Onward s limit (position-at (m .end) n) (tree (a .type) nil) (position-at at₁ n₁)
-  onward = term-onward s limit _ _ (a .type) (a .read)
+  onward = term-onward format s limit _ _ (a .type) (a .read)
 
   first-row : n₁ ≡ suc (next n (a .type .args))
   first-row = onward .rows
 
-  rows-are : table₂ ≡ with-words table (n * 8) (forest-words n (trees made))
-  rows-are =
+  rows-are : Holds 8 limit table → table₂ ≡ with-words table (n * 8) (forest-words n (trees made))
+  rows-are holds =
       let u = forest-words n (tree (a .type) nil) in
       let f = body-trees (b .body) in
-      b .words
-      ∙ ap (λ (l : List ℕ). with-words l (n₁ * 8) (forest-words n₁ f)) (a .words)
+      b .words (subst (λ (i : ℕ). limit ≤ i / 8) (sym long) holds)
+      ∙ ap (λ (l : List ℕ). with-words l (n₁ * 8) (forest-words n₁ f)) (a .words holds)
       ∙ with-more-words table (n * 8) (n₁ * 8) u (forest-words n₁ f) (omega (arith, length-forest n (tree (a .type) nil), first-row))
       (omega (arith, onward .room stored))
       ∙ ap (λ (i : ℕ). with-words table (n * 8) (u ++ forest-words i f)) first-row
@@ -111,8 +114,8 @@ module _ (s table list : List ℕ) (at n k : ℕ) (t : Token) (j : ℕ) (x : Lex
       (ap (λ (i : ℕ). i ∷ []) (b .row-is) ∙ body-word n₁ (b .body) ∙ ap (λ (i : ℕ). pad 1 (roots i (body-trees (b .body)))) first-row)
 
   pub ended : (y : Result Token) → closing s (position-at at₂ n₂) ≡ y → (r : DeclarationRead) (list₁ : List ℕ) → Finishes y k list words r list₁
-      → Declares (answer s limit t j at n) n k table list r table₂ list₁
-  ended (refused z) q r list₁ f = rw (close-refused s limit t j at n x h m e (a .type) at₁ n₁ (a .read) (b .body) at₂ n₂ (b .read) z q) (f .0)
+      → Declares limits (answer format s limit t j at n) n k table list r table₂ list₁
+  ended (refused z) q r list₁ f = rw (close-refused format s limit t j at n x h m e (a .type) at₁ n₁ (a .read) (b .body) at₂ n₂ (b .read) z q) (f .0)
   ended (done c p) q r list₁ f =
-      rw (declared-done s limit t j at n x h m e (a .type) at₁ n₁ (a .read) (b .body) at₂ n₂ (b .read) c p q)
-      (f .0, rows-are, f .1 ∙ stored-at-place 5 list k words refl (omega arith) room ∙ ap (with-words list (k * 5)) record-is)
+      rw (declared-done format s limit t j at n x h m e (a .type) at₁ n₁ (a .read) (b .body) at₂ n₂ (b .read) c p q)
+      (f .0, rows-are, λ holds. f .1 ∙ stored-at-place 5 list k words refl (omega arith) (omega arith) ∙ ap (with-words list (k * 5)) record-is)

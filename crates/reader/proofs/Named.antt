@@ -8,12 +8,14 @@ use Rattle.token.specs.declared.Token.{Token}
 use Rattle.token.specs.declared.Refusal.{Refusal}
 use Rattle.token.specs.declared.Lexed.{Lexed}
 use Rattle.token.specs.declared.Lexed.the-variants.{Got}
-use Rattle.terms.specs.Forms.{edition-0-1}
 use Rattle.surface.specs.Reading.{closing, name}
 use Rattle.expects.specs.Expects.{position-at, Reads}
 use Rattle.expects.proofs.Ahead.{TokenAhead, name-ahead, read-ahead}
 use Rattle.parser.specs.Machine.{ReadsTerm}
 use Rattle.parser.specs.declared.TermRead.{TermRead}
+use Rattle.expects.specs.declared.Format.{Format}
+use Rattle.expects.specs.Formats.{edition}
+use Rattle.reader.specs.declared.Limits.{Limits}
 use Rattle.reader.specs.declared.DeclarationRead.{DeclarationRead}
 use Rattle.reader.specs.ModuleWords.{whole-term, one-body}
 use Rattle.reader.specs.Parts.{BodyReads, ReadsBody, Finishes}
@@ -22,61 +24,61 @@ use Rattle.reader.proofs.Ahead.{term-onward}
 use Rattle.reader.proofs.Parts.{present, term-inside, term-read, TypeRead, type-done, type-refused, body-done, body-refused}
 use Rattle.reader.proofs.Declarations as by
 
-pub name-order : (s : List ℕ) (at : ℕ) (x : Lexed) → Reads s (name edition-0-1 s) at x → (m : Token) → x ≡ Got m → m .start ≤ m .end
-name-order s at x h m e = let a = read-ahead s (name edition-0-1 s) (λ p. name-ahead s p edition-0-1) at x h m e 0 in omega arith
+pub name-order : (format : Format) (s : List ℕ) (at : ℕ) (x : Lexed) → Reads s (name (edition format) s) at x → (m : Token) → x ≡ Got m → m .start ≤ m .end
+name-order format s at x h m e = let a = read-ahead s (name (edition format) s) (λ p. name-ahead s p (edition format)) at x h m e 0 in omega arith
 
-module _ (s table list work : List ℕ) (at n k : ℕ) (t : Token) (j kind : ℕ) (inside : Inside s table work at n) (room : k < length list / 5) (is : kind ≡ suc j)
-    (x : Lexed) (h : Reads s (name edition-0-1 s) at x) (m : Token) (e : x ≡ Got m) where
+module _ (format : Format) (limits : Limits) (s table list work : List ℕ) (at n k : ℕ) (t : Token) (j kind : ℕ) (inside : Inside (limits .rows) s work at n) (room : k < limits .declarations) (is : kind ≡ suc j)
+    (x : Lexed) (h : Reads s (name (edition format) s) at x) (m : Token) (e : x ≡ Got m) where
   named : TokenAhead s (position-at at n) m (position-at (m .end) n)
-  named = read-ahead s (name edition-0-1 s) (λ p. name-ahead s p edition-0-1) at x h m e n
+  named = read-ahead s (name (edition format) s) (λ p. name-ahead s p (edition format)) at x h m e n
 
-  type-at : Inside s table work (m .end) n
+  type-at : Inside (limits .rows) s work (m .end) n
   type-at = record { source = inside .source; area = inside .area; within = named .high; few = omega (arith, named, inside .few); stored = inside .stored }
 
   -- The type.
   module _ (y : TermRead) (table₁ work₁ : List ℕ) (u : length table₁ ≡ length table) (v : length work₁ ≡ length work)
-      (g : ReadsTerm s table work (m .end) n y table₁) where
-    typed : BodyReads (present (whole-term s (length table / 8) (position-at (m .end) n))) n table y table₁
-    typed = term-read s table (m .end) n y table₁ (g (term-inside s table work (m .end) n type-at))
+      (g : ReadsTerm (edition format) (limits .rows) s table work (m .end) n y table₁) where
+    typed : BodyReads (limits .rows) (present (whole-term format s (limits .rows) (position-at (m .end) n))) n table y table₁
+    typed = term-read format (limits .rows) s table (m .end) n (inside .stored) y table₁ (g (term-inside (limits .rows) s work (m .end) n type-at))
 
-    pub type-stops : (r : Refusal) → y ≡ TermRead.Refused r → (list₁ : List ℕ) → Declares (by.answer s (length table / 8) t j at n) n k table list (DeclarationRead.Refused r) table₁ list₁
-    type-stops r i list₁ = by.stops _ r n k table list table₁ list₁ (by.type-refused s _ t j at n x h m e r (type-refused n table y table₁ r i _ typed))
+    pub type-stops : (r : Refusal) → y ≡ TermRead.Refused r → (list₁ : List ℕ) → Declares limits (by.answer format s (limits .rows) t j at n) n k table list (DeclarationRead.Refused r) table₁ list₁
+    type-stops r i list₁ = by.stops limits _ r n k table list table₁ list₁ (by.type-refused format s _ t j at n x h m e r (type-refused (limits .rows) n table y table₁ r i _ typed))
 
     module _ (row n₁ at₁ : ℕ) (i : y ≡ TermRead.Done row n₁ at₁) where
-      type : TypeRead (whole-term s (length table / 8) (position-at (m .end) n)) n table row n₁ at₁ table₁
-      type = type-done n table y table₁ row n₁ at₁ i _ typed
+      type : TypeRead (limits .rows) (whole-term format s (limits .rows) (position-at (m .end) n)) n table row n₁ at₁ table₁
+      type = type-done (limits .rows) n table y table₁ row n₁ at₁ i _ typed
 
-      body-at : Inside s table₁ work₁ at₁ n₁
+      body-at : Inside (limits .rows) s work₁ at₁ n₁
       body-at =
-          let o = term-onward s (length table / 8) (position-at (m .end) n) (position-at at₁ n₁) (type .type) (type .read) in
+          let o = term-onward format s (limits .rows) (position-at (m .end) n) (position-at at₁ n₁) (type .type) (type .read) in
           record {
             source = inside .source;
             area = omega (arith, inside .area);
             within = o .high (type-at .within);
             few = omega (arith, o .slow, type-at .few);
-            stored = subst (λ (l : ℕ). n₁ ≤ l / 8) (sym u) (o .room (inside .stored));
+            stored = o .room (inside .stored);
           }
 
       -- The body.
       module _ (z : TermRead) (table₂ : List ℕ)
-          (f : ReadsBody s table₁ work₁ kind at₁ n₁ z table₂) where
-        bodied : BodyReads (one-body s (length table / 8) j (position-at at₁ n₁)) n₁ table₁ z table₂
-        bodied = subst (λ (l : ℕ). BodyReads (one-body s (l / 8) j (position-at at₁ n₁)) n₁ table₁ z table₂) u (f body-at j is)
+          (f : ReadsBody format limits s table₁ work₁ kind at₁ n₁ z table₂) where
+        bodied : BodyReads (limits .rows) (one-body format s (limits .rows) j (position-at at₁ n₁)) n₁ table₁ z table₂
+        bodied = f body-at j is
 
         pub body-stops : (r : Refusal) → z ≡ TermRead.Refused r → (list₁ : List ℕ)
-            → Declares (by.answer s (length table / 8) t j at n) n k table list (DeclarationRead.Refused r) table₂ list₁
+            → Declares limits (by.answer format s (limits .rows) t j at n) n k table list (DeclarationRead.Refused r) table₂ list₁
         body-stops r q list₁ =
-            by.stops _ r n k table list table₂ list₁
-            (by.body-refused s _ t j at n x h m e (type .type) at₁ n₁ (type .read) r (body-refused n₁ table₁ z table₂ r q _ bodied))
+            by.stops limits _ r n k table list table₂ list₁
+            (by.body-refused format s _ t j at n x h m e (type .type) at₁ n₁ (type .read) r (body-refused (limits .rows) n₁ table₁ z table₂ r q _ bodied))
 
         -- The end.
         pub ends : (body n₂ at₂ : ℕ) → z ≡ TermRead.Done body n₂ at₂ → (words : List ℕ)
             → (m .end < 4294967296 → words ≡ kind ∷ m .start ∷ (m .end - m .start) ∷ row ∷ body ∷ [])
             → (r : DeclarationRead) (list₁ : List ℕ) → Finishes (closing s (position-at at₂ n₂)) k list words r list₁
-            → Declares (by.answer s (length table / 8) t j at n) n k table list r table₂ list₁
+            → Declares limits (by.answer format s (limits .rows) t j at n) n k table list r table₂ list₁
         ends body n₂ at₂ q words w r list₁ c =
             let d : words ≡ suc j ∷ m .start ∷ (m .end - m .start) ∷ row ∷ body ∷ [] =
             w (omega (arith, named .high, inside .source)) ∙ ap (λ (i : ℕ). i ∷ m .start ∷ (m .end - m .start) ∷ row ∷ body ∷ []) is in
-            by.ended s table list at n k t j x h m e row n₁ at₁ table₁ type body n₂ at₂ table₂ (body-done n₁ table₁ z table₂ body n₂ at₂ q _ bodied)
+            by.ended format limits s table list at n k t j x h m e row n₁ at₁ table₁ u type body n₂ at₂ table₂ (body-done (limits .rows) n₁ table₁ z table₂ body n₂ at₂ q _ bodied)
             (inside .stored) room (closing s (position-at at₂ n₂)) refl r list₁
             (subst (λ (l : List ℕ). Finishes (closing s (position-at at₂ n₂)) k list l r list₁) d c)

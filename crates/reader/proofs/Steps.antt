@@ -10,7 +10,6 @@ use Rattle.token.specs.declared.Token.{Token}
 use Rattle.token.specs.declared.Refusal.{Refusal}
 use Rattle.token.specs.declared.Lexed.{Lexed}
 use Rattle.token.specs.declared.Lexed.the-variants.{Got, Refused}
-use Rattle.terms.specs.Forms.{edition-0-1}
 use Rattle.terms.specs.Label.{Declaration, trees}
 use Rattle.terms.specs.Tree.{next, roots, cells}
 use Rattle.terms.specs.Rows.{surface-row, surface-rows, joined, read-record, read-records}
@@ -19,36 +18,40 @@ use Rattle.surface.specs.Reader.{Position, Result, done, refused, Reader, after
 use Rattle.surface.specs.Reading.{lexed, token, onwards, declarations}
 use Rattle.tables.specs.Tables.{with-words}
 use Rattle.expects.specs.Expects.{position-at}
+use Rattle.parser.proofs.StoredRows.{with-no-words, with-more-words}
 use Rattle.expects.proofs.Ahead.{TokenAhead, token-got}
+use Rattle.expects.specs.declared.Format.{Format}
+use Rattle.expects.specs.Formats.{edition}
+use Rattle.reader.specs.declared.Limits.{Limits}
 use Rattle.reader.specs.declared.DeclarationRead.{DeclarationRead}
 use Rattle.reader.specs.declared.ModuleRead.{ModuleRead}
 use Rattle.reader.specs.ModuleWords.{whole-term, one-declaration, all-declarations, row-words}
 use Rattle.reader.specs.Parts.{ReadsFrom, left, Went}
-use Rattle.reader.specs.Reads.{Inside, Declares}
+use Rattle.reader.specs.Reads.{Holds, Inside, Declares}
 use Rattle.reader.proofs.Ahead.{declaration-onward}
-use Rattle.reader.proofs.Words.{joined-append, length-forest, with-no-words, with-more-words}
+use Rattle.reader.proofs.Words.{joined-append, length-forest}
 
-module _ (s : List ℕ) (limit : ℕ) where
+module _ (format : Format) (s : List ℕ) (limit : ℕ) where
   -- What stands behind an opening parenthesis, where there is room for so many declarations.
   abbrev more : ℕ → Reader (List Declaration)
   more zero = refuse (nowhere 9)
-  more (suc m) = one-declaration s limit >>= (λ d. all-declarations s limit m >>= (λ l. pure (d ∷ l)))
+  more (suc m) = one-declaration format s limit >>= (λ d. all-declarations format s limit m >>= (λ l. pure (d ∷ l)))
 
-  first-token : (room : ℕ) (p : Position) → all-declarations s limit room p ≡ (token s >>= (λ t. onwards edition-0-1 s (whole-term s limit) (more room) t (t .kind))) p
+  first-token : (room : ℕ) (p : Position) → all-declarations format s limit room p ≡ (token s >>= (λ t. onwards (edition format) s (whole-term format s limit) (more room) t (t .kind))) p
   unfolding declarations
   first-token zero p = refl
   first-token (suc m) p = refl
 
   module _ (at n room : ℕ) (x : Lexed) (h : x ≡ next-token s at) where
     abbrev answer : Result (List Declaration)
-    answer = all-declarations s limit room (position-at at n)
+    answer = all-declarations format s limit room (position-at at n)
 
     pub next-refused : (r : Refusal) → x ≡ Refused r → answer ≡ refused r
     unfolding token
     next-refused r e = first-token room _ ∙ rw (sym h ∙ e)
 
     module _ (t : Token) (e : x ≡ Got t) where
-      on-kind : (k : TokenKind) → t .kind ≡ k → answer ≡ onwards edition-0-1 s (whole-term s limit) (more room) t k (position-at (t .end) n)
+      on-kind : (k : TokenKind) → t .kind ≡ k → answer ≡ onwards (edition format) s (whole-term format s limit) (more room) t k (position-at (t .end) n)
       unfolding token
       on-kind k q = first-token room _ ∙ rw (sym h ∙ e, q)
 
@@ -71,90 +74,91 @@ module _ (s : List ℕ) (limit : ℕ) where
           by TokenKind.Eof q = absurd (b q)
 
       pub next-opens : t .kind ≡ TokenKind.LParen → (m : ℕ) → room ≡ suc m
-          → answer ≡ after (one-declaration s limit (position-at (t .end) n)) (λ d. all-declarations s limit m >>= (λ l. pure (d ∷ l)))
+          → answer ≡ after (one-declaration format s limit (position-at (t .end) n)) (λ d. all-declarations format s limit m >>= (λ l. pure (d ∷ l)))
       unfolding onwards
       next-opens q m z = on-kind TokenKind.LParen q ∙ ap (λ (j : ℕ). more j (position-at (t .end) n)) z
 
 -- The end: nothing more is stored.
-pub ends-here : (s table list : List ℕ) (at n k : ℕ) (x : Lexed) → x ≡ next-token s at → (t : Token) → x ≡ Got t → t .kind ≡ TokenKind.Eof
-    → ReadsFrom n k (left s table list at n k) table list (ModuleRead.Done n k) table list
-ends-here s table list at n k x h t e q =
-    rw (next-end s (length table / 8) at n (length list / 5 - k) x h t e q)
-    (ap (ModuleRead.Done n) (let z : k ≡ k + 0 = omega arith in z), sym (with-no-words table (n * 8)), sym (with-no-words list (k * 5)))
+pub ends-here : (format : Format) (limits : Limits) (s table list : List ℕ) (at n k : ℕ) (x : Lexed) → x ≡ next-token s at → (t : Token) → x ≡ Got t → t .kind ≡ TokenKind.Eof
+    → ReadsFrom limits n k (left format limits s at n k) table list (ModuleRead.Done n k) table list
+ends-here format limits s table list at n k x h t e q =
+    rw (next-end format s (limits .rows) at n (limits .declarations - k) x h t e q)
+    (ap (ModuleRead.Done n) (let z : k ≡ k + 0 = omega arith in z), λ holds. sym (with-no-words table (n * 8)), λ holds. sym (with-no-words list (k * 5)))
 
 -- A declaration d behind n rows and k declarations, and then others.
-module _ (n k n₁ : ℕ) (table list table₁ list₁ : List ℕ) (d : Declaration) (rows : n₁ ≡ next n (trees d)) (few : n₁ * 8 ≤ length table) (room : k < length list / 5)
-    (u : table₁ ≡ with-words table (n * 8) (row-words n d)) (v : list₁ ≡ with-words list (k * 5) (read-record n d)) where
-  more-rows : (ds : List Declaration) → with-words table₁ (n₁ * 8) (joined (surface-rows n₁ ds)) ≡ with-words table (n * 8) (joined (surface-rows n (d ∷ ds)))
-  more-rows ds =
-      ap (λ (l : List ℕ). with-words l (n₁ * 8) (joined (surface-rows n₁ ds))) u
-      ∙ with-more-words table (n * 8) (n₁ * 8) (row-words n d) (joined (surface-rows n₁ ds)) (omega (arith, length-forest n (trees d), rows)) few
+module _ (limits : Limits) (n k n₁ : ℕ) (table list table₁ list₁ : List ℕ) (d : Declaration) (rows : n₁ ≡ next n (trees d)) (few : n₁ ≤ limits .rows) (room : k < limits .declarations)
+    (long : length table₁ ≡ length table) (far : length list₁ ≡ length list)
+    (u : Holds 8 (limits .rows) table → table₁ ≡ with-words table (n * 8) (row-words n d)) (v : Holds 5 (limits .declarations) list → list₁ ≡ with-words list (k * 5) (read-record n d)) where
+  more-rows : Holds 8 (limits .rows) table → (ds : List Declaration) → with-words table₁ (n₁ * 8) (joined (surface-rows n₁ ds)) ≡ with-words table (n * 8) (joined (surface-rows n (d ∷ ds)))
+  more-rows holds ds =
+      ap (λ (l : List ℕ). with-words l (n₁ * 8) (joined (surface-rows n₁ ds))) (u holds)
+      ∙ with-more-words table (n * 8) (n₁ * 8) (row-words n d) (joined (surface-rows n₁ ds)) (omega (arith, length-forest n (trees d), rows)) (omega arith)
       ∙ ap (λ (i : ℕ). with-words table (n * 8) (row-words n d ++ joined (surface-rows i ds))) rows
       ∙ ap (with-words table (n * 8)) (sym (joined-append (map surface-row (cells n (trees d))) (surface-rows (next n (trees d)) ds)))
 
-  more-records : (ds : List Declaration) → with-words list₁ ((k + 1) * 5) (joined (read-records n₁ ds)) ≡ with-words list (k * 5) (joined (read-records n (d ∷ ds)))
-  more-records ds =
-      ap (λ (l : List ℕ). with-words l ((k + 1) * 5) (joined (read-records n₁ ds))) v
+  more-records : Holds 5 (limits .declarations) list → (ds : List Declaration) → with-words list₁ ((k + 1) * 5) (joined (read-records n₁ ds)) ≡ with-words list (k * 5) (joined (read-records n (d ∷ ds)))
+  more-records holds ds =
+      ap (λ (l : List ℕ). with-words l ((k + 1) * 5) (joined (read-records n₁ ds))) (v holds)
       ∙ with-more-words list (k * 5) ((k + 1) * 5) (read-record n d) (joined (read-records n₁ ds)) (omega (arith, length-pad 2 (roots n (trees d)))) (omega arith)
       ∙ ap (λ (i : ℕ). with-words list (k * 5) (read-record n d ++ joined (read-records i ds))) rows
 
-  pub further : (y : Result (List Declaration)) (r : ModuleRead) (table₂ list₂ : List ℕ) → ReadsFrom n₁ (k + 1) y table₁ list₁ r table₂ list₂
-      → ReadsFrom n k (after y (λ l. pure (d ∷ l))) table list r table₂ list₂
+  pub further : (y : Result (List Declaration)) (r : ModuleRead) (table₂ list₂ : List ℕ) → ReadsFrom limits n₁ (k + 1) y table₁ list₁ r table₂ list₂
+      → ReadsFrom limits n k (after y (λ l. pure (d ∷ l))) table list r table₂ list₂
   further (refused x) r table₂ list₂ h = h
-  further (done ds q) r table₂ list₂ h =
-      (h .0 ∙ ap (ModuleRead.Done (q .rows)) (let z : k + 1 + length ds ≡ k + suc (length ds) = omega arith in z), h .1 ∙ more-rows ds, h .2 ∙ more-records ds)
+  further (done ds q) r table₂ list₂ h = (
+    h .0 ∙ ap (ModuleRead.Done (q .rows)) (let z : k + 1 + length ds ≡ k + suc (length ds) = omega arith in z),
+    λ holds. h .1 (subst (λ (i : ℕ). limits .rows ≤ i / 8) (sym long) holds) ∙ more-rows holds ds,
+    λ holds. h .2 (subst (λ (i : ℕ). limits .declarations ≤ i / 5) (sym far) holds) ∙ more-records holds ds,
+  )
 
 -- A declaration that was read behind the parenthesis t.
-module _ (s table list : List ℕ) (at n k : ℕ) (work work₁ : List ℕ) (inside : Inside s table work at n) (room : k < length list / 5) (x : Lexed) (h : x ≡ next-token s at)
+module _ (format : Format) (limits : Limits) (s table list : List ℕ) (at n k : ℕ) (work work₁ : List ℕ) (inside : Inside (limits .rows) s work at n) (room : k < limits .declarations) (x : Lexed) (h : x ≡ next-token s at)
     (t : Token) (e : x ≡ Got t) (opens : t .kind ≡ TokenKind.LParen) where
   opened : TokenAhead s (position-at at n) t (position-at (t .end) n)
   unfolding token
   opened = token-got s _ t _ (ap (lexed s n) (sym h ∙ e)) (λ i. let z : _≡_ {A = ℕ} 0 1 = cc in omega arith)
 
-  behind-parenthesis : Inside s table work (t .end) n
+  behind-parenthesis : Inside (limits .rows) s work (t .end) n
   behind-parenthesis = record { source = inside .source; area = inside .area; within = opened .high; few = omega (arith, opened, inside .few); stored = inside .stored }
 
   abbrev one : Result Declaration
-  one = one-declaration s (length table / 8) (position-at (t .end) n)
+  one = one-declaration format s (limits .rows) (position-at (t .end) n)
 
   abbrev others : ℕ
-  others = length list / 5 - (k + 1)
+  others = limits .declarations - (k + 1)
 
-  opens-to : left s table list at n k ≡ after one (λ d. all-declarations s (length table / 8) others >>= (λ l. pure (d ∷ l)))
-  opens-to = next-opens s (length table / 8) at n (length list / 5 - k) x h t e opens others (omega arith)
+  opens-to : left format limits s at n k ≡ after one (λ d. all-declarations format s (limits .rows) others >>= (λ l. pure (d ∷ l)))
+  opens-to = next-opens format s (limits .rows) at n (limits .declarations - k) x h t e opens others (omega arith)
 
   module _ (y : DeclarationRead) (table₁ list₁ : List ℕ) (u : length table₁ ≡ length table) (v : length list₁ ≡ length list) (w : length work₁ ≡ length work)
-      (g : Inside s table work (t .end) n → k < length list / 5 → Declares one n k table list y table₁ list₁) where
-    pub declaration-stops : (r : Refusal) → y ≡ DeclarationRead.Refused r → left s table list at n k ≡ refused r
+      (g : Inside (limits .rows) s work (t .end) n → k < limits .declarations → Declares limits one n k table list y table₁ list₁) where
+    pub declaration-stops : (r : Refusal) → y ≡ DeclarationRead.Refused r → left format limits s at n k ≡ refused r
     declaration-stops r i = by one refl (g behind-parenthesis room)
       where
-        by : (z : Result Declaration) → one ≡ z → Declares z n k table list y table₁ list₁ → left s table list at n k ≡ refused r
+        by : (z : Result Declaration) → one ≡ z → Declares limits z n k table list y table₁ list₁ → left format limits s at n k ≡ refused r
         by (done d q) j f = absurd (let z : _≡_ {A = ℕ} 0 1 = cc (f .0) in omega arith)
         by (refused c) j f = opens-to ∙ rw j (ap refused (cc))
 
-    pub went : (n₁ at₁ : ℕ) → y ≡ DeclarationRead.Done n₁ at₁ → Went s table list at n k at₁ n₁ table₁ list₁ work₁
+    pub went : (n₁ at₁ : ℕ) → y ≡ DeclarationRead.Done n₁ at₁ → Went format limits s table list at n k at₁ n₁ table₁ list₁ work₁
     went n₁ at₁ i = by one refl (g behind-parenthesis room)
       where
-        by : (z : Result Declaration) → one ≡ z → Declares z n k table list y table₁ list₁ → Went s table list at n k at₁ n₁ table₁ list₁ work₁
+        by : (z : Result Declaration) → one ≡ z → Declares limits z n k table list y table₁ list₁ → Went format limits s table list at n k at₁ n₁ table₁ list₁ work₁
         by (refused c) j f = absurd (let z : _≡_ {A = ℕ} 0 1 = cc in omega arith)
         by (done d q) j f =
             let is : one ≡ done d (position-at at₁ n₁) = j ∙ ap₂ (λ (a b : ℕ). done d (position-at a b)) (cc (f .0)) (cc (f .0)) in
-            let o = declaration-onward s (length table / 8) _ _ d is in
+            let o = declaration-onward format s (limits .rows) _ _ d is in
             let b = behind-parenthesis in
-            let m : n₁ ≤ length table / 8 = o .room (inside .stored) in
-            let same : left s table₁ list₁ at₁ n₁ (k + 1) ≡ all-declarations s (length table / 8) others (position-at at₁ n₁) =
-            ap₂ (λ (a c : ℕ). all-declarations s (a / 8) (c / 5 - (k + 1)) (position-at at₁ n₁)) u v in
+            let m : n₁ ≤ limits .rows = o .room (inside .stored) in
             record {
               inside = record {
                 source = inside .source;
                 area = omega (arith, inside .area);
                 within = o .high (b .within);
                 few = omega (arith, o .slow, b .few);
-                stored = subst (λ (l : ℕ). n₁ ≤ l / 8) (sym u) m;
+                stored = m;
               };
               same = λ r table₂ list₂ a.
-                  subst (λ (l : Result (List Declaration)). ReadsFrom n k l table list r table₂ list₂)
-                  (sym (opens-to ∙ ap (λ (l : Result Declaration). after l (λ d. all-declarations s (length table / 8) others >>= (λ l. pure (d ∷ l)))) is))
-                  (further n k n₁ table list table₁ list₁ d (o .rows) (omega arith) room (f .1) (f .2) (all-declarations s (length table / 8) others (position-at at₁ n₁)) r table₂ list₂
-                  (subst (λ (l : Result (List Declaration)). ReadsFrom n₁ (k + 1) l table₁ list₁ r table₂ list₂) same a));
+                  subst (λ (l : Result (List Declaration)). ReadsFrom limits n k l table list r table₂ list₂)
+                  (sym (opens-to ∙ ap (λ (l : Result Declaration). after l (λ d. all-declarations format s (limits .rows) others >>= (λ l. pure (d ∷ l)))) is))
+                  (further limits n k n₁ table list table₁ list₁ d (o .rows) m room u v (f .1) (f .2) (all-declarations format s (limits .rows) others (position-at at₁ n₁)) r table₂ list₂ a);
             }

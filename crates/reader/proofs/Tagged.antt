@@ -13,36 +13,38 @@ use Rattle.surface.specs.Text.{text}
 use Rattle.terms.specs.Label.{Declaration}
 use Rattle.expects.specs.Expects.{position-at, Reads}
 use Rattle.expects.proofs.Ahead.{atom-ahead, read-ahead}
+use Rattle.expects.specs.declared.Format.{Format}
+use Rattle.reader.specs.declared.Limits.{Limits}
 use Rattle.reader.specs.declared.DeclarationRead.{DeclarationRead}
 use Rattle.reader.specs.ModuleWords.{named-declaration, one-declaration}
 use Rattle.reader.specs.Reads.{Inside, Declares}
 
 -- Reading may go on behind the word.
-pub behind-word : (s table work : List ℕ) (at n : ℕ) (x : Lexed) → Reads s (atom s) at x → (t : Token) → x ≡ Got t → Inside s table work at n
-    → Inside s table work (t .end) n
-behind-word s table work at n x h t e i =
+pub behind-word : (limit : ℕ) (s work : List ℕ) (at n : ℕ) (x : Lexed) → Reads s (atom s) at x → (t : Token) → x ≡ Got t → Inside limit s work at n
+    → Inside limit s work (t .end) n
+behind-word limit s work at n x h t e i =
     let a = read-ahead s (atom s) (atom-ahead s) at x h t e n in
     record { source = i .source; area = i .area; within = a .high; few = omega arith; stored = i .stored }
 
-module _ (s : List ℕ) (limit at n : ℕ) (x : Lexed) (h : Reads s (atom s) at x) where
-  pub word-refused : (r : Refusal) → x ≡ Refused r → one-declaration s limit (position-at at n) ≡ refused r
+module _ (format : Format) (s : List ℕ) (limit at n : ℕ) (x : Lexed) (h : Reads s (atom s) at x) where
+  pub word-refused : (r : Refusal) → x ≡ Refused r → one-declaration format s limit (position-at at n) ≡ refused r
   unfolding declaration
   word-refused r e = rw (h n, e)
 
   module _ (t : Token) (e : x ≡ Got t) (kind : ℕ) (is : kind ≡ declaration-kind (text s t)) where
-    by-kind : one-declaration s limit (position-at at n) ≡ named-declaration s limit t kind (position-at (t .end) n)
+    by-kind : one-declaration format s limit (position-at at n) ≡ named-declaration format s limit t kind (position-at (t .end) n)
     unfolding declaration
     by-kind = rw (h n, e, is)
 
-    pub other-word : kind ≡ 0 → (r : Refusal) → r ≡ at-token 1 t → one-declaration s limit (position-at at n) ≡ refused r
+    pub other-word : kind ≡ 0 → (r : Refusal) → r ≡ at-token 1 t → one-declaration format s limit (position-at at n) ≡ refused r
     unfolding declared
-    other-word z r i = by-kind ∙ ap (λ (j : ℕ). named-declaration s limit t j (position-at (t .end) n)) z ∙ ap refused (sym i)
+    other-word z r i = by-kind ∙ ap (λ (j : ℕ). named-declaration format s limit t j (position-at (t .end) n)) z ∙ ap refused (sym i)
 
     -- What stands behind a declaration's word.
-    pub word-got : (kind ≡ 0 → ⊥) → (k : ℕ) (table list : List ℕ) (r : DeclarationRead) (table₁ list₁ : List ℕ)
-        → ((u : Token) (j : ℕ) → kind ≡ suc j → Declares (named-declaration s limit u (suc j) (position-at (t .end) n)) n k table list r table₁ list₁)
-        → Declares (one-declaration s limit (position-at at n)) n k table list r table₁ list₁
-    word-got z k table list r table₁ list₁ d =
+    pub word-got : (kind ≡ 0 → ⊥) → (limits : Limits) (k : ℕ) (table list : List ℕ) (r : DeclarationRead) (table₁ list₁ : List ℕ)
+        → ((u : Token) (j : ℕ) → kind ≡ suc j → Declares limits (named-declaration format s limit u (suc j) (position-at (t .end) n)) n k table list r table₁ list₁)
+        → Declares limits (one-declaration format s limit (position-at at n)) n k table list r table₁ list₁
+    word-got z limits k table list r table₁ list₁ d =
         let j : kind ≡ suc (kind - 1) = omega (arith, z) in
-        subst (λ (y : Result Declaration). Declares y n k table list r table₁ list₁)
-        (ap (λ (i : ℕ). named-declaration s limit t i (position-at (t .end) n)) (sym j) ∙ sym by-kind) (d t (kind - 1) j)
+        subst (λ (y : Result Declaration). Declares limits y n k table list r table₁ list₁)
+        (ap (λ (i : ℕ). named-declaration format s limit t i (position-at (t .end) n)) (sym j) ∙ sym by-kind) (d t (kind - 1) j)

@@ -1,17 +1,14 @@
--- The words of trees behind one another, and words stored behind words that were stored. Assumes nothing.
-use mathlib.Core.Path.{_≡_, refl, sym, _∙_, ap, ap₂}
-use mathlib.Core.List.{List, [], _∷_, _++_, map, map-append, append-assoc, append-nil}
-use Prim.Native.Nat.{ℕ, suc, _+_, _*_, _≤_}
+-- The words of trees behind one another. Assumes nothing.
+use mathlib.Core.Path.{_≡_, refl, sym, _∙_, ap}
+use mathlib.Core.List.{List, [], _∷_, _++_, map, map-append, append-assoc}
+use Prim.Native.Nat.{ℕ, suc, _+_, _*_}
 use native.Mathlib.Omega.{arith}
-use lib.ListN.{length, take, drop, length-append, take-append-drop}
-use lib.Seq.{drop-drop}
+use lib.ListN.{length, length-append}
 use Rattle.terms.specs.Label.{Label}
 use Rattle.terms.specs.Tree.{Forest, nil, Tree, tree, Cell, next, roots, cells}
 use Rattle.terms.specs.Rows.{surface-row, joined}
 use Rattle.terms.proofs.Cells.{next-cells}
 use Rattle.terms.proofs.Widths.{length-surface-row}
-use Rattle.tables.specs.Tables.{with-words}
-use Rattle.tables.proofs.Stored.{take-stored, drop-stored}
 use Rattle.reader.specs.ModuleWords.{forest-words}
 
 pub joined-append : (a b : List (List ℕ)) → joined (a ++ b) ≡ joined a ++ joined b
@@ -34,20 +31,3 @@ forest-split n a f =
     ap (λ (l : List (Cell Label)). joined (map surface-row l)) (sym (append-assoc (cells n (a .args)) c rest))
     ∙ ap joined (map-append surface-row (cells n (a .args) ++ c) rest)
     ∙ joined-append (map surface-row (cells n (a .args) ++ c)) (map surface-row rest)
-
-pub with-no-words : (t : List ℕ) (at : ℕ) → with-words t at [] ≡ t
-with-no-words t at =
-    let e : at + 0 ≡ at = omega arith in
-    ap₂ (λ (l : List ℕ) (k : ℕ). l ++ drop k t) (append-nil (take at t)) e ∙ take-append-drop at t
-
-pub with-more-words : (t : List ℕ) (at to : ℕ) (u v : List ℕ) → at + length u ≡ to → to ≤ length t → with-words (with-words t at u) to v ≡ with-words t at (u ++ v)
-with-more-words t at to u v e h =
-    let k : at + length u ≤ length t = omega arith in
-    let w = with-words t at u in
-    let x : take to w ≡ take at t ++ u = ap (λ (n : ℕ). take n w) (sym e) ∙ take-stored t at u k in
-    let y : drop (to + length v) w ≡ drop (at + length (u ++ v)) t =
-    sym (drop-drop (length v) to w)
-    ∙ ap (drop (length v)) (ap (λ (n : ℕ). drop n w) (sym e) ∙ drop-stored t at u k)
-    ∙ drop-drop (length v) (at + length u) t
-    ∙ ap (λ (n : ℕ). drop n t) (let q : at + length u + length v ≡ at + length (u ++ v) = omega (arith, length-append u v) in q) in
-    ap₂ (λ (a b : List ℕ). a ++ v ++ b) x y ∙ ap (λ (l : List ℕ). l ++ drop (at + length (u ++ v)) t) (append-assoc (take at t) u v)

@@ -3,32 +3,33 @@ use mathlib.Core.List.{List, map}
 use mathlib.Core.Option.{Option, none, some}
 use Prim.Native.Nat.{ℕ}
 use Rattle.token.specs.declared.Token.{Token}
-use Rattle.terms.specs.Forms.{edition-0-1}
 use Rattle.terms.specs.Label.{Label, Declaration, trees}
 use Rattle.terms.specs.Tree.{Forest, nil, Tree, tree, maybe, next, cells}
 use Rattle.terms.specs.Rows.{surface-row, joined}
+use Rattle.expects.specs.declared.Format.{Format}
+use Rattle.expects.specs.Formats.{edition}
 use Rattle.surface.specs.Reader.{Reader}
 use Rattle.surface.specs.Reading.{term, beginning, closing, body, declared, declaration, declarations}
 
 -- A whole type or body, where there is room for so many rows.
-abbrev pub whole-term : List ℕ → ℕ → Reader (Tree Label)
-whole-term s limit = term (beginning edition-0-1 s) (closing s) limit 512
+abbrev pub whole-term : Format → List ℕ → ℕ → Reader (Tree Label)
+whole-term f s limit = term (beginning (edition f) s) (closing s) limit 512
 
 -- The body of a declaration of kind 1 + j.
-abbrev pub one-body : List ℕ → ℕ → ℕ → Reader (Option (Tree Label))
-one-body s limit j = body edition-0-1 s (whole-term s limit) j
+abbrev pub one-body : Format → List ℕ → ℕ → ℕ → Reader (Option (Tree Label))
+one-body f s limit j = body (edition f) s (whole-term f s limit) j
 
 -- A declaration of some kind behind its word t.
-abbrev pub named-declaration : List ℕ → ℕ → Token → ℕ → Reader Declaration
-named-declaration s limit t kind = declared edition-0-1 s (whole-term s limit) t kind
+abbrev pub named-declaration : Format → List ℕ → ℕ → Token → ℕ → Reader Declaration
+named-declaration f s limit t kind = declared (edition f) s (whole-term f s limit) t kind
 
 -- A declaration behind its parenthesis.
-abbrev pub one-declaration : List ℕ → ℕ → Reader Declaration
-one-declaration s limit = declaration edition-0-1 s (whole-term s limit)
+abbrev pub one-declaration : Format → List ℕ → ℕ → Reader Declaration
+one-declaration f s limit = declaration (edition f) s (whole-term f s limit)
 
 -- Declarations to the end, where there is room for so many more.
-abbrev pub all-declarations : List ℕ → ℕ → ℕ → Reader (List Declaration)
-all-declarations s limit room = declarations edition-0-1 s (whole-term s limit) room
+abbrev pub all-declarations : Format → List ℕ → ℕ → ℕ → Reader (List Declaration)
+all-declarations f s limit room = declarations (edition f) s (whole-term f s limit) room
 
 -- The words of the rows of some trees, the first of which is row n.
 abbrev pub forest-words : ℕ → Forest Label → List ℕ

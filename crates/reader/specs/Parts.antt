@@ -2,7 +2,7 @@
 use mathlib.Core.Path.{_≡_}
 use mathlib.Core.List.{List}
 use mathlib.Core.Option.{Option}
-use Prim.Native.Nat.{ℕ, suc, _+_, _*_, _/_, _-_, _≤_, _<_}
+use Prim.Native.Nat.{ℕ, suc, _+_, _*_, _-_, _≤_, _<_}
 use lib.ListN.{length}
 use Rattle.token.specs.declared.Token.{Token}
 use Rattle.terms.specs.Label.{Label, Declaration}
@@ -11,23 +11,26 @@ use Rattle.terms.specs.Rows.{surface-rows, joined, read-records}
 use Rattle.surface.specs.Reader.{Result, done, refused}
 use Rattle.tables.specs.Tables.{with-words}
 use Rattle.rows.specs.Places.{stored-at}
+use Rattle.expects.specs.declared.Format.{Format}
 use Rattle.expects.specs.Expects.{position-at}
 use Rattle.parser.specs.declared.TermRead.{TermRead}
-use Rattle.reader.specs.ModuleWords.{one-body, named-declaration, all-declarations, forest-words, body-trees, body-row}
-use Rattle.reader.specs.Reads.{Inside, Declares}
+use Rattle.reader.specs.ModuleWords.{one-body, named-declaration, one-declaration, all-declarations, forest-words, body-trees, body-row}
+use Rattle.reader.specs.Reads.{Holds, Inside, Declares}
+use Rattle.reader.specs.declared.Limits.{Limits}
 use Rattle.reader.specs.declared.DeclarationRead.{DeclarationRead}
 use Rattle.reader.specs.declared.Step.{Step}
 use Rattle.reader.specs.declared.ModuleRead.{ModuleRead}
 
--- The answer for a body behind n rows: its rows stand behind the rows.
-abbrev pub BodyReads : Result (Option (Tree Label)) → ℕ → List ℕ → TermRead → List ℕ → Type 0
-BodyReads (done b q) n table r table₁ = (r ≡ TermRead.Done (body-row n b) (q .rows) (q .offset)) × (table₁ ≡ with-words table (n * 8) (forest-words n (body-trees b)))
-BodyReads (refused x) n table r table₁ = r ≡ TermRead.Refused x
+-- The answer for a body behind n rows: its rows stand behind the rows, in a table that holds as many as there is room for.
+abbrev pub BodyReads : ℕ → Result (Option (Tree Label)) → ℕ → List ℕ → TermRead → List ℕ → Type 0
+BodyReads limit (done b q) n table r table₁ =
+    (r ≡ TermRead.Done (body-row n b) (q .rows) (q .offset)) × (Holds 8 limit table → table₁ ≡ with-words table (n * 8) (forest-words n (body-trees b)))
+BodyReads limit (refused x) n table r table₁ = r ≡ TermRead.Refused x
 
 -- r is the answer for the body of a declaration of a kind.
-abbrev pub ReadsBody : List ℕ → List ℕ → List ℕ → ℕ → ℕ → ℕ → TermRead → List ℕ → Type 0
-ReadsBody s table work kind at n r table₁ =
-    Inside s table work at n → (j : ℕ) → kind ≡ suc j → BodyReads (one-body s (length table / 8) j (position-at at n)) n table r table₁
+abbrev pub ReadsBody : Format → Limits → List ℕ → List ℕ → List ℕ → ℕ → ℕ → ℕ → TermRead → List ℕ → Type 0
+ReadsBody f limits s table work kind at n r table₁ =
+    Inside (limits .rows) s work at n → (j : ℕ) → kind ≡ suc j → BodyReads (limits .rows) (one-body f s (limits .rows) j (position-at at n)) n table r table₁
 
 -- The answer for a declaration's end: its record is stored once its parenthesis is read, and not before.
 abbrev pub Finishes : Result Token → ℕ → List ℕ → List ℕ → DeclarationRead → List ℕ → Type 0
@@ -35,43 +38,51 @@ Finishes (done c q) k list words r list₁ = (r ≡ DeclarationRead.Done (q .row
 Finishes (refused x) k list words r list₁ = (r ≡ DeclarationRead.Refused x) × (list₁ ≡ list)
 
 -- r is the answer for a declaration of a kind behind its word. The word itself plays no part any more.
-abbrev pub ReadsNamed : List ℕ → List ℕ → List ℕ → List ℕ → ℕ → ℕ → ℕ → ℕ → DeclarationRead → List ℕ → List ℕ → Type 0
-ReadsNamed s table list work kind at n k r table₁ list₁ =
-    Inside s table work at n → k < length list / 5 → (t : Token) (j : ℕ) → kind ≡ suc j
-    → Declares (named-declaration s (length table / 8) t (suc j) (position-at at n)) n k table list r table₁ list₁
+abbrev pub ReadsNamed : Format → Limits → List ℕ → List ℕ → List ℕ → List ℕ → ℕ → ℕ → ℕ → ℕ → DeclarationRead → List ℕ → List ℕ → Type 0
+ReadsNamed f limits s table list work kind at n k r table₁ list₁ =
+    Inside (limits .rows) s work at n → k < limits .declarations → (t : Token) (j : ℕ) → kind ≡ suc j
+    → Declares limits (named-declaration f s (limits .rows) t (suc j) (position-at at n)) n k table list r table₁ list₁
+
+-- r is the answer for a declaration behind its parenthesis.
+abbrev pub ReadsDeclaration : Format → Limits → List ℕ → List ℕ → List ℕ → List ℕ → ℕ → ℕ → ℕ → DeclarationRead → List ℕ → List ℕ → Type 0
+ReadsDeclaration f limits s table list work at n k r table₁ list₁ =
+    Inside (limits .rows) s work at n → k < limits .declarations
+    → Declares limits (one-declaration f s (limits .rows) (position-at at n)) n k table list r table₁ list₁
 
 -- The answer for the declarations that stand behind n rows and k declarations: the words of their rows and records stand behind those.
-abbrev pub ReadsFrom : ℕ → ℕ → Result (List Declaration) → List ℕ → List ℕ → ModuleRead → List ℕ → List ℕ → Type 0
-ReadsFrom n k (done ds q) table list r table₁ list₁ =
-    (r ≡ ModuleRead.Done (q .rows) (k + length ds)) × (table₁ ≡ with-words table (n * 8) (joined (surface-rows n ds))) × (list₁ ≡ with-words list (k * 5) (joined (read-records n ds)))
-ReadsFrom n k (refused x) table list r table₁ list₁ = r ≡ ModuleRead.Refused x
+abbrev pub ReadsFrom : Limits → ℕ → ℕ → Result (List Declaration) → List ℕ → List ℕ → ModuleRead → List ℕ → List ℕ → Type 0
+ReadsFrom limits n k (done ds q) table list r table₁ list₁ =
+    (r ≡ ModuleRead.Done (q .rows) (k + length ds)) × (Holds 8 (limits .rows) table → table₁ ≡ with-words table (n * 8) (joined (surface-rows n ds)))
+    × (Holds 5 (limits .declarations) list → list₁ ≡ with-words list (k * 5) (joined (read-records n ds)))
+ReadsFrom limits n k (refused x) table list r table₁ list₁ = r ≡ ModuleRead.Refused x
 
 -- The declarations that are left at an offset behind n rows and k declarations.
-abbrev pub left : List ℕ → List ℕ → List ℕ → ℕ → ℕ → ℕ → Result (List Declaration)
-left s table list at n k = all-declarations s (length table / 8) (length list / 5 - k) (position-at at n)
+abbrev pub left : Format → Limits → List ℕ → ℕ → ℕ → ℕ → Result (List Declaration)
+left f limits s at n k = all-declarations f s (limits .rows) (limits .declarations - k) (position-at at n)
 
 -- A declaration was read: the answer for what is left then is the answer for what was left before.
-pub record Went (s table list : List ℕ) (at n k at₁ n₁ : ℕ) (table₁ list₁ work₁ : List ℕ) : Type 0 where
-  pub inside : Inside s table₁ work₁ at₁ n₁
+pub record Went (f : Format) (limits : Limits) (s table list : List ℕ) (at n k at₁ n₁ : ℕ) (table₁ list₁ work₁ : List ℕ) : Type 0 where
+  pub inside : Inside (limits .rows) s work₁ at₁ n₁
   pub same : (r : ModuleRead) (table₂ list₂ : List ℕ)
-      → ReadsFrom n₁ (k + 1) (left s table₁ list₁ at₁ n₁ (k + 1)) table₁ list₁ r table₂ list₂ → ReadsFrom n k (left s table list at n k) table list r table₂ list₂
+      → ReadsFrom limits n₁ (k + 1) (left f limits s at₁ n₁ (k + 1)) table₁ list₁ r table₂ list₂ → ReadsFrom limits n k (left f limits s at n k) table list r table₂ list₂
 
 -- What stands next behind n rows and k declarations.
-abbrev pub Stepped : List ℕ → List ℕ → List ℕ → ℕ → ℕ → ℕ → Step → List ℕ → List ℕ → List ℕ → Type 0
-Stepped s table list at n k (Step.Declared n₁ at₁) table₁ list₁ work₁ = Went s table list at n k at₁ n₁ table₁ list₁ work₁
-Stepped s table list at n k Step.End table₁ list₁ work₁ = ReadsFrom n k (left s table list at n k) table list (ModuleRead.Done n k) table₁ list₁
-Stepped s table list at n k (Step.Refused x) table₁ list₁ work₁ = left s table list at n k ≡ refused x
+abbrev pub Stepped : Format → Limits → List ℕ → List ℕ → List ℕ → ℕ → ℕ → ℕ → Step → List ℕ → List ℕ → List ℕ → Type 0
+Stepped f limits s table list at n k (Step.Declared n₁ at₁) table₁ list₁ work₁ = Went f limits s table list at n k at₁ n₁ table₁ list₁ work₁
+Stepped f limits s table list at n k Step.End table₁ list₁ work₁ = ReadsFrom limits n k (left f limits s at n k) table list (ModuleRead.Done n k) table₁ list₁
+Stepped f limits s table list at n k (Step.Refused x) table₁ list₁ work₁ = left f limits s at n k ≡ refused x
 
-abbrev pub Steps : List ℕ → List ℕ → List ℕ → List ℕ → ℕ → ℕ → ℕ → Step → List ℕ → List ℕ → List ℕ → Type 0
-Steps s table list work at n k r table₁ list₁ work₁ = Inside s table work at n → k ≤ length list / 5 → Stepped s table list at n k r table₁ list₁ work₁
+abbrev pub Steps : Format → Limits → List ℕ → List ℕ → List ℕ → List ℕ → ℕ → ℕ → ℕ → Step → List ℕ → List ℕ → List ℕ → Type 0
+Steps f limits s table list work at n k r table₁ list₁ work₁ =
+    Inside (limits .rows) s work at n → k ≤ limits .declarations → Stepped f limits s table list at n k r table₁ list₁ work₁
 
 -- A declaration is read only where there is room for its record.
-abbrev pub HasRoom : List ℕ → ℕ → Step → Type 0
-HasRoom list k (Step.Declared n at) = k < length list / 5
-HasRoom list k Step.End = Unit {0}
-HasRoom list k (Step.Refused x) = Unit {0}
+abbrev pub HasRoom : Limits → ℕ → Step → Type 0
+HasRoom limits k (Step.Declared n at) = k < limits .declarations
+HasRoom limits k Step.End = Unit {0}
+HasRoom limits k (Step.Refused x) = Unit {0}
 
 -- r is the answer for the declarations from an offset on, where no row and no declaration is stored.
-abbrev pub ReadsDeclarations : List ℕ → List ℕ → List ℕ → List ℕ → ℕ → ModuleRead → List ℕ → List ℕ → Type 0
-ReadsDeclarations s table list work from r table₁ list₁ =
-    Inside s table work from 0 → ReadsFrom 0 0 (left s table list from 0 0) table list r table₁ list₁
+abbrev pub ReadsDeclarations : Format → Limits → List ℕ → List ℕ → List ℕ → List ℕ → ℕ → ModuleRead → List ℕ → List ℕ → Type 0
+ReadsDeclarations f limits s table list work from r table₁ list₁ =
+    Inside (limits .rows) s work from 0 → ReadsFrom limits 0 0 (left f limits s from 0 0) table list r table₁ list₁

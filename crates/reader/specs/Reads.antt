@@ -8,26 +8,39 @@ use Rattle.terms.specs.Rows.{surface-rows, joined, read-record, read-records}
 use Rattle.surface.specs.Reader.{Result, done, refused}
 use Rattle.tables.specs.Tables.{with-words}
 use Rattle.reader.specs.ModuleWords.{row-words}
+use Rattle.reader.specs.declared.Limits.{Limits}
 use Rattle.reader.specs.declared.DeclarationRead.{DeclarationRead}
 use Rattle.reader.specs.declared.ModuleRead.{ModuleRead}
 
--- Where reading may go on: at an offset, behind n rows.
--- "6 source over 65,535 bytes" and "11 work area under 16,384 words" are refused before a module is read.
-pub record Inside (s table work : List ℕ) (at n : ℕ) : Type 0 where
-  pub source : length s ≤ 65535
-  pub area : 16384 ≤ length work
+-- A table with a place of some width for each of so many.
+abbrev pub Holds : ℕ → ℕ → List ℕ → Type 0
+Holds width limit t = limit ≤ length t / width
+
+-- Where reading may go on: at an offset, behind n rows, of which there is room for so many.
+pub record Inside (limit : ℕ) (s work : List ℕ) (at n : ℕ) : Type 0 where
+  pub source : length s ≤ 4294967295
+  pub area : 5632 ≤ length work
   pub within : at ≤ length s
   pub few : n ≤ at
-  pub stored : n ≤ length table / 8
+  pub stored : n ≤ limit
 
--- The answer for a declaration behind n rows and k declarations: its rows stand behind the rows, its record behind the records.
-abbrev pub Declares : Result Declaration → ℕ → ℕ → List ℕ → List ℕ → DeclarationRead → List ℕ → List ℕ → Type 0
-Declares (done d q) n k table list r table₁ list₁ =
-    (r ≡ DeclarationRead.Done (q .rows) (q .offset)) × (table₁ ≡ with-words table (n * 8) (row-words n d)) × (list₁ ≡ with-words list (k * 5) (read-record n d))
-Declares (refused x) n k table list r table₁ list₁ = r ≡ DeclarationRead.Refused x
+-- The answer for a declaration behind n rows and k declarations: its rows stand behind the rows, its record behind the records, in tables
+-- that hold as much as there is room for.
+abbrev pub Declares : Limits → Result Declaration → ℕ → ℕ → List ℕ → List ℕ → DeclarationRead → List ℕ → List ℕ → Type 0
+Declares limits (done d q) n k table list r table₁ list₁ =
+    (r ≡ DeclarationRead.Done (q .rows) (q .offset)) × (Holds 8 (limits .rows) table → table₁ ≡ with-words table (n * 8) (row-words n d))
+    × (Holds 5 (limits .declarations) list → list₁ ≡ with-words list (k * 5) (read-record n d))
+Declares limits (refused x) n k table list r table₁ list₁ = r ≡ DeclarationRead.Refused x
 
--- The answer for a whole module: the words of its rows and records stand at the beginning of the tables, and what lay behind them is
--- untouched. Of the tables after a refusal nothing is said: the caller clears them.
+-- The answer for a whole module, in tables that hold as much as there is room for: the words of its rows and records stand at the beginning
+-- of the tables, and what lay behind them is untouched. Of the tables after a refusal nothing is said: the caller clears them.
+abbrev pub ReadsWithin : Limits → Result (List Declaration) → List ℕ → List ℕ → ModuleRead → List ℕ → List ℕ → Type 0
+ReadsWithin limits (done ds q) table list r table₁ list₁ =
+    (r ≡ ModuleRead.Done (q .rows) (length ds)) × (Holds 8 (limits .rows) table → table₁ ≡ with-words table 0 (joined (surface-rows 0 ds)))
+    × (Holds 5 (limits .declarations) list → list₁ ≡ with-words list 0 (joined (read-records 0 ds)))
+ReadsWithin limits (refused x) table list r table₁ list₁ = r ≡ ModuleRead.Refused x
+
+-- The same where the tables say how much there is room for.
 abbrev pub ReadsModule : Result (List Declaration) → List ℕ → List ℕ → ModuleRead → List ℕ → List ℕ → Type 0
 ReadsModule (done ds q) table list r table₁ list₁ =
     (r ≡ ModuleRead.Done (q .rows) (length ds)) × (table₁ ≡ with-words table 0 (joined (surface-rows 0 ds))) × (list₁ ≡ with-words list 0 (joined (read-records 0 ds)))

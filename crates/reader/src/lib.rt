@@ -4,19 +4,24 @@ ghost use mathlib.Core.Path.{_≡_};
 ghost use mathlib.Core.List.{[], _∷_};
 ghost use Prim.Native.Nat.{_-_, _/_, _≤_, _<_};
 ghost use lib.ListN.{length};
-ghost use Rattle.surface.specs.Reader.{start, nowhere, at-offset};
+ghost use Rattle.surface.specs.Reader.{start};
 ghost use Rattle.surface.specs.Reading.{closing, read-module};
 ghost use Rattle.expects.specs.Expects.{position-at};
-ghost use Rattle.reader.specs.ModuleWords.{one-declaration};
-ghost use Rattle.reader.specs.Parts.{ReadsBody, Finishes, ReadsNamed, Steps, HasRoom, ReadsDeclarations};
-ghost use Rattle.reader.specs.Reads.{Inside, Declares, ReadsModule};
+ghost use Rattle.reader.specs.Parts.{ReadsBody, Finishes, ReadsNamed, ReadsDeclaration, Steps, HasRoom, ReadsDeclarations};
+ghost use Rattle.reader.specs.Reads.{ReadsWithin, ReadsModule};
+use expects::Format;
 use expects::HeadRead;
 use parser::TermRead;
 use token::Lexed;
-use token::Place;
 use token::Refusal;
 use token::Token;
 use token::TokenKind;
+
+// How many rows and declarations there is room for.
+pub struct Limits {
+    pub rows: usize,
+    pub declarations: usize,
+}
 
 // A declaration that was read: how many rows are stored, and where reading goes on; or the refusal.
 pub enum DeclarationRead {
@@ -37,39 +42,13 @@ pub enum ModuleRead {
     Refused(Refusal),
 }
 
-fn malformed(at: usize) -> Refusal
-    ensures { λ r. ⌜ r ≡ at-offset 1 at ⌝ }
-{
-    Refusal {
-        class: 1,
-        place: Place::At(at),
-    }
-}
-
-// "9 declaration list full", nowhere
-fn full() -> Refusal
-    ensures { λ r. ⌜ r ≡ nowhere 9 ⌝ }
-{
-    Refusal {
-        class: 9,
-        place: Place::Nowhere,
-    }
-}
-
-// An offset or a length as a word of a record: itself, in a source of at most 65535 bytes.
-fn narrow(n: usize) -> u32
-    ensures { λ r. ⌜ (n < 4294967296 → r ≡ n) ⌝ }
-{
-    (n % 4294967296) as u32
-}
-
 // "kind, name start, name length, type row, body row"
 fn declaration_record(kind: u32, name: Token, type_row: u32, body_row: u32) -> [u32; 5]
     requires { ⌜ name .start ≤ name .end ⌝ }
     ensures { λ r. ⌜ (name .end < 4294967296 → r ≡ kind ∷ name .start ∷ (name .end - name .start) ∷ «type_row» ∷ «body_row» ∷ []) ⌝ }
 {
-    let start = narrow(name.start);
-    let length = narrow(name.end - name.start);
+    let start = expects::narrow(name.start);
+    let length = expects::narrow(name.end - name.start);
     [kind, start, length, type_row, body_row]
 }
 
@@ -81,8 +60,10 @@ fn read_body(
     kind: u32,
     at: usize,
     rows: usize,
+    limits: Limits,
+    format: Format,
 ) -> TermRead
-    ensures { λ r. ⌜ ReadsBody (now (s .entry)) (now (table .entry)) (now (work .entry)) kind at rows r (now (table .exit)) ⌝ }
+    ensures { λ r. ⌜ ReadsBody format limits (now (s .entry)) (now (table .entry)) (now (work .entry)) kind at rows r (now (table .exit)) ⌝ }
 {
     if kind == 1 {
         return TermRead::Done {
@@ -91,7 +72,7 @@ fn read_body(
             next: at,
         };
     }
-    parser::read_term(s, table, work, at, rows)
+    parser::read_term(s, table, work, at, rows, limits.rows, format)
 }
 
 // The closing parenthesis of a declaration, and only then its record.
@@ -128,18 +109,20 @@ fn read_named(
     at: usize,
     rows: usize,
     k: usize,
+    limits: Limits,
+    format: Format,
 ) -> DeclarationRead
-    ensures { λ r. ⌜ ReadsNamed (now (s .entry)) (now (table .entry)) (now (list .entry)) (now (work .entry)) kind at rows k r (now (table .exit)) (now (list .exit)) ⌝ }
+    ensures { λ r. ⌜ ReadsNamed format limits (now (s .entry)) (now (table .entry)) (now (list .entry)) (now (work .entry)) kind at rows k r (now (table .exit)) (now (list .exit)) ⌝ }
 {
-    let l = expects::parse_identifier(s, at);
+    let l = expects::parse_identifier(s, at, format);
     match l {
         Lexed::Refused(r) => DeclarationRead::Refused(r),
         Lexed::Got(name) => {
-            let ty = parser::read_term(s, table, work, name.end, rows);
+            let ty = parser::read_term(s, table, work, name.end, rows, limits.rows, format);
             match ty {
                 TermRead::Refused(r) => DeclarationRead::Refused(r),
                 TermRead::Done { row, rows, next } => {
-                    let body = read_body(s, table, work, kind, next, rows);
+                    let body = read_body(s, table, work, kind, next, rows, limits, format);
                     match body {
                         TermRead::Refused(r) => DeclarationRead::Refused(r),
                         TermRead::Done { row: b, rows, next } => {
@@ -162,8 +145,10 @@ pub fn read_declaration(
     at: usize,
     rows: usize,
     k: usize,
+    limits: Limits,
+    format: Format,
 ) -> DeclarationRead
-    ensures { λ r. ⌜ (Inside (now (s .entry)) (now (table .entry)) (now (work .entry)) at rows → k < length (now (list .entry)) / 5 → Declares (one-declaration (now (s .entry)) (length (now (table .entry)) / 8) (position-at at rows)) rows k (now (table .entry)) (now (list .entry)) r (now (table .exit)) (now (list .exit))) ⌝ }
+    ensures { λ r. ⌜ ReadsDeclaration format limits (now (s .entry)) (now (table .entry)) (now (list .entry)) (now (work .entry)) at rows k r (now (table .exit)) (now (list .exit)) ⌝ }
 {
     let l = expects::next_atom(s, at);
     match l {
@@ -173,9 +158,9 @@ pub fn read_declaration(
             let e = tag.end;
             let kind = expects::declaration_kind(&s[a..e]);
             if kind == 0 {
-                return DeclarationRead::Refused(malformed(a));
+                return DeclarationRead::Refused(expects::refused_at(1, a));
             }
-            read_named(s, table, list, work, kind, e, rows, k)
+            read_named(s, table, list, work, kind, e, rows, k, limits, format)
         }
     }
 }
@@ -189,9 +174,11 @@ fn next_declaration(
     at: usize,
     rows: usize,
     k: usize,
+    limits: Limits,
+    format: Format,
 ) -> Step
-    ensures { λ r. ⌜ Steps (now (s .entry)) (now (table .entry)) (now (list .entry)) (now (work .entry)) at rows k r (now (table .exit)) (now (list .exit)) (now (work .exit)) ⌝ }
-    ensures { λ r. ⌜ HasRoom (now (list .entry)) k r ⌝ }
+    ensures { λ r. ⌜ Steps format limits (now (s .entry)) (now (table .entry)) (now (list .entry)) (now (work .entry)) at rows k r (now (table .exit)) (now (list .exit)) (now (work .exit)) ⌝ }
+    ensures { λ r. ⌜ HasRoom limits k r ⌝ }
 {
     let l = expects::next_token(s, at);
     match l {
@@ -201,10 +188,11 @@ fn next_declaration(
             match kind {
                 TokenKind::Eof => Step::End,
                 TokenKind::LParen => {
-                    if list.len() / 5 <= k {
-                        return Step::Refused(full());
+                    if limits.declarations <= k {
+                        // "9 declaration list full", nowhere
+                        return Step::Refused(expects::refused_nowhere(9));
                     }
-                    let d = read_declaration(s, table, list, work, t.end, rows, k);
+                    let d = read_declaration(s, table, list, work, t.end, rows, k, limits, format);
                     match d {
                         DeclarationRead::Refused(r) => Step::Refused(r),
                         DeclarationRead::Done { rows: n, next } => Step::Declared {
@@ -213,7 +201,7 @@ fn next_declaration(
                         },
                     }
                 }
-                _ => Step::Refused(malformed(t.start)),
+                _ => Step::Refused(expects::refused_at(1, t.start)),
             }
         }
     }
@@ -226,14 +214,16 @@ fn read_declarations(
     list: &mut [u32],
     work: &mut [u32],
     from: usize,
+    limits: Limits,
+    format: Format,
 ) -> ModuleRead
-    ensures { λ r. ⌜ ReadsDeclarations (now (s .entry)) (now (table .entry)) (now (list .entry)) (now (work .entry)) from r (now (table .exit)) (now (list .exit)) ⌝ }
+    ensures { λ r. ⌜ ReadsDeclarations format limits (now (s .entry)) (now (table .entry)) (now (list .entry)) (now (work .entry)) from r (now (table .exit)) (now (list .exit)) ⌝ }
 {
     let mut at = from;
     let mut rows = 0;
     let mut k = 0;
     loop {
-        let step = next_declaration(s, table, list, work, at, rows, k);
+        let step = next_declaration(s, table, list, work, at, rows, k, limits, format);
         match step {
             Step::Refused(r) => {
                 return ModuleRead::Refused(r);
@@ -253,12 +243,32 @@ fn read_declarations(
     }
 }
 
-pub fn read_module(s: &[u8], table: &mut [u32], list: &mut [u32], work: &mut [u32]) -> ModuleRead
-    ensures { λ r. ⌜ (length (now (s .entry)) ≤ 65535 → 16384 ≤ length (now (work .entry)) → ReadsModule (read-module (now (s .entry)) (length (now (table .entry)) / 8) (length (now (list .entry)) / 5) 512 start) (now (table .entry)) (now (list .entry)) r (now (table .exit)) (now (list .exit))) ⌝ }
+// The port of `parse_module`. Rows and declarations are counted against the limits; what a table has no place for is left out of it.
+pub fn read_within(
+    s: &[u8],
+    table: &mut [u32],
+    list: &mut [u32],
+    work: &mut [u32],
+    limits: Limits,
+) -> ModuleRead
+    ensures { λ r. ⌜ (length (now (s .entry)) ≤ 4294967295 → 5632 ≤ length (now (work .entry)) → ReadsWithin limits (read-module (now (s .entry)) (limits .rows) (limits .declarations) 512 start) (now (table .entry)) (now (list .entry)) r (now (table .exit)) (now (list .exit))) ⌝ }
 {
     let h = expects::read_head(s);
     match h {
         HeadRead::Refused(r) => ModuleRead::Refused(r),
-        HeadRead::Name(_, next) => read_declarations(s, table, list, work, next),
+        HeadRead::Name(format, _, next) => {
+            read_declarations(s, table, list, work, next, limits, format)
+        }
     }
+}
+
+// The same where the tables say how much there is room for: "words divided by 8, rounded down", "words divided by 5, rounded down".
+pub fn read_module(s: &[u8], table: &mut [u32], list: &mut [u32], work: &mut [u32]) -> ModuleRead
+    ensures { λ r. ⌜ (length (now (s .entry)) ≤ 65535 → 16384 ≤ length (now (work .entry)) → ReadsModule (read-module (now (s .entry)) (length (now (table .entry)) / 8) (length (now (list .entry)) / 5) 512 start) (now (table .entry)) (now (list .entry)) r (now (table .exit)) (now (list .exit))) ⌝ }
+{
+    let limits = Limits {
+        rows: table.len() / 8,
+        declarations: list.len() / 5,
+    };
+    read_within(s, table, list, work, limits)
 }

@@ -27,12 +27,9 @@ use denote.Slice.{Room}
 use denote.Steps.{peeks, only}
 use denote.Struct.Laws as LL
 use Rattle.records.specs.declared.Declaration.{Declaration}
-use Rattle.record_list.specs.Left.{used}
+use Rattle.record_list.specs.Left.{used, useds}
 use Rattle.records.proofs.Declaration as T
 use Rattle.records.proofs.Declaration.Laws as T′
-
-unfoldable pub useds : List Declaration
-useds = replicate 256 used
 
 pub useds-length : length useds ≡ 256
 unfolding useds

@@ -17,13 +17,8 @@ module _ (count m : ℕ) (words : List ℕ) (e : m ≡ word-limit count (length 
   pub taken : m ≡ length (take m words)
   taken = sym (length-take-le m words within)
 
-  -- What is said of the part left, ys, is said of the front of the table left.
-  module _ (ys : List ℕ) (l : length ys ≡ length (take m words)) where
-    long : length ys ≡ m
-    long = l ∙ sym taken
-
-    front-left : front count words (ys ++ drop m words) ≡ ys
-    front-left = ap (λ (n : ℕ). take n (ys ++ drop m words)) (sym e) ∙ take-at ys (drop m words) m long
-
-    pub left : (P : List ℕ → ℕ → Type 0) → P ys (length (take m words)) → P (front count words (ys ++ drop m words)) (word-limit count (length words))
-    left P h = subst (λ (d : List ℕ). P d (word-limit count (length words))) (sym front-left) (subst (P ys) (sym taken ∙ e) h)
+  -- What is said of the part before the call and after it, ys, is said of the front of the table.
+  pub left : (ys : List ℕ) → length ys ≡ length (take m words) → (P : List ℕ → List ℕ → Type 0) → P (take m words) ys → P (front count words words) (front count words (ys ++ drop m words))
+  left ys l P h =
+      let back : ys ≡ front count words (ys ++ drop m words) = sym (take-at ys (drop m words) m (l ∙ sym taken)) ∙ ap (λ (n : ℕ). take n (ys ++ drop m words)) e in
+      subst (λ (y : List ℕ). P (front count words words) y) back (subst (λ (n : ℕ). P (take n words) ys) e h)

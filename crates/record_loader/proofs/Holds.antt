@@ -13,12 +13,16 @@ use Rattle.terms.specs.Rows.{pad, joined, declaration-records}
 use Rattle.terms.proofs.Tables.{length-pad, getD-pad, length-joined, joined-at}
 use Rattle.terms.proofs.Widths.{wide-records, count-records}
 use Rattle.surface.specs.Reader.{Position, start, Result, done, refused}
-use Rattle.surface.specs.Loading.{Lengths, outcome, loading, load}
+use Rattle.surface.specs.declared.Answer.{Answer}
+use Rattle.surface.specs.Tables.{Lengths, tables, leaves}
+use Rattle.surface.specs.Loading.{Outcome, outcome, loading, load}
 use Rattle.records.specs.declared.Declaration as R
 use Rattle.records.specs.Records.{blank, five-words, record-at, records-from, records-of}
 use Rattle.records.proofs.Whole.{at-whole, at-behind}
 use Rattle.record_loader.proofs.Lists.{five-same}
 use Rattle.record_loader.proofs.Room.{with-words, loading-few}
+use Rattle.record_loader.proofs.Words.{listed-records}
+use Rattle.record_loader.specs.Recorded.{list-words}
 
 -- Record k of a list that a table gives.
 from-at : (t : List ℕ) (k n i : ℕ) → i < n → getD (records-from t k n) i blank ≡ record-at t (k + i)
@@ -49,6 +53,11 @@ module _ (s : List ℕ) (z : Lengths) (n : ℕ) where
   -- The list of n records that loading leaves.
   abbrev pub list : List R.Declaration
   list = records-of (load s (with-words z (n * 5)) .tables .declarations) n
+
+  -- A list of n records with whose words loading is promised is this one.
+  pub held : (l : List R.Declaration) → length l ≡ n → (a : Answer) (surface core work : List ℕ) → leaves a (tables surface core (list-words l) work) ≡ load s (with-words z (n * 5)) → l ≡ list
+  held l h a surface core work e =
+      listed-records l _ (ap (λ (o : Outcome). o .tables .declarations) e) ∙ ap (records-of (load s (with-words z (n * 5)) .tables .declarations)) h
 
   abbrev result : Result (List Declaration)
   result = loading s (with-words z (n * 5)) start

@@ -6,3 +6,4 @@ mod Moves
 mod Replying
 mod Room
 mod Settling
+mod Words

@@ -4,9 +4,8 @@ use reader::ModuleRead;
 use records::Declaration;
 use surface::Answer;
 use surface::Dependence;
-ghost use lib.ListN.{length};
-ghost use Rattle.records.specs.Records.{word-limit};
-ghost use Rattle.record_loader.specs.Recorded.{lengths-with, lengths-of-list, front, RepliesWithRecords};
+ghost use Rattle.surface.specs.Tables.{tables};
+ghost use Rattle.record_loader.specs.Recorded.{list-words, front};
 ghost use Rattle.record_loader.specs.Replies.{Replies};
 
 pub enum Question {
@@ -31,7 +30,7 @@ fn ask_words(
     count: usize,
     work: &mut [u32],
 ) -> Reply
-    ensures { λ r. ⌜ Replies (now (s .entry)) question (lengths-with (now (surface .entry)) (now (core .entry)) (word-limit count (length (now (words .entry)))) (now (work .entry))) (now (core .entry)) r (now (surface .exit)) (now (core .exit)) (front count (now (words .entry)) (now (words .exit))) (now (work .exit)) ⌝ }
+    ensures { λ r. ⌜ Replies (now (s .entry)) question (tables (now (surface .entry)) (now (core .entry)) (front count (now (words .entry)) (now (words .entry))) (now (work .entry))) r (tables (now (surface .exit)) (now (core .exit)) (front count (now (words .entry)) (now (words .exit))) (now (work .exit))) ⌝ }
 {
     let limit = records::word_limit(count, words.len());
     match question {
@@ -60,7 +59,7 @@ pub fn ask_records(
     declarations: &mut [Declaration],
     work: &mut [u32],
 ) -> Reply
-    ensures { λ r. ⌜ RepliesWithRecords (now (s .entry)) question (lengths-of-list (now (surface .entry)) (now (core .entry)) (now (declarations .entry)) (now (work .entry))) (length (now (declarations .entry))) (now (core .entry)) r (now (surface .exit)) (now (core .exit)) (now (declarations .exit)) (now (work .exit)) ⌝ }
+    ensures { λ r. ⌜ Replies (now (s .entry)) question (tables (now (surface .entry)) (now (core .entry)) (list-words (now (declarations .entry))) (now (work .entry))) r (tables (now (surface .exit)) (now (core .exit)) (list-words (now (declarations .exit))) (now (work .exit))) ⌝ }
 {
     let mut words = [0u32; 65535];
     let reply = ask_words(

@@ -1,10 +1,10 @@
 -- The arity of every kind and whether it has a span: those of a table, by one computed test each, and the kinds behind them. Assumes nothing.
-use Prim.Native.Nat.{ℕ, zero, suc, _+_, _*_, _-_, _/_, _%_, _^_, _≤_, _<_}
+use Prim.Native.Nat.{ℕ, zero, suc, _+_, _/_, _%_, _^_, _≤_, _<_}
 use mathlib.Core.Path.{_≡_, refl, sym, ap, _∙_}
 use mathlib.Core.Bool.{Bool, true, false, _&&_, and-eq-true-iff}
 use mathlib.Core.List.{List, [], _∷_}
 use mathlib.Core.Option.{none}
-use native.Mathlib.Decide.{decLt}
+use native.Mathlib.Decide.{ℕ-discrete, decLt}
 use native.Mathlib.Omega.{arith}
 use native.Mathlib.Nat.{add-zero, zero-add, not-suc-le-zero}
 use lib.Dec.{eqb, ltb, leb}
@@ -31,10 +31,7 @@ module _ {A : Type 0} (f : ℕ → A) where
 pub same-value : {A : Type 0} (f g : ℕ → A) (d : A) (n k : ℕ) → values g 0 n ≡ values f 0 n → k < n → g k ≡ f k
 same-value f g d n k e h = sym (value-at g (values g 0 n) d n k refl h) ∙ value-at f (values g 0 n) d n k e h
 
--- The arities as octal digits of a number, from kind 3 on, and the spans as its bits.
-pub arity-digit : (n k : ℕ) → values (λ j. n / 2 ^ (3 * (j - 3)) % 8) 0 25 ≡ values arity-of 0 25 → k < 25 → n / 2 ^ (3 * (k - 3)) % 8 ≡ arity-of k
-arity-digit n k e h = same-value arity-of (λ j. n / 2 ^ (3 * (j - 3)) % 8) 0 25 k e h
-
+-- The spans as the bits of a number.
 pub span-bit : (n k : ℕ) → values (λ j. eqb (n / 2 ^ j % 2) 1) 0 25 ≡ values holds-span 0 25 → k < 25 → eqb (n / 2 ^ k % 2) 1 ≡ holds-span k
 span-bit n k e h = same-value holds-span (λ j. eqb (n / 2 ^ j % 2) 1) false 25 k e h
 
@@ -58,6 +55,20 @@ no-kind k h = no-form 25 k forms refl h
 pub no-arity : (k : ℕ) → 25 ≤ k → arity-of k ≡ 0
 unfolding arity-of
 no-arity k h = rw (no-kind k h, arity-of)
+
+-- Behind n, and not n itself.
+pub above : (n k : ℕ) → n ≤ k → (k ≡ n → ⊥) → suc n ≤ k
+above n k l h = omega arith
+
+-- No form of another kind than 4 to 23 has an argument.
+pub no-arguments : (k : ℕ) → (4 ≤ k → 24 ≤ k) → arity-of k ≡ 0
+unfolding forms form-of-kind arity-of
+no-arguments k h = elim (decLt k 4) [
+  | yes l ↦ sym (same-value arity-of (λ j. 0) 0 4 k refl l)
+  | no l ↦
+      let m : 24 ≤ k = h (omega arith) in
+      elim (ℕ-discrete k 24) [ yes e ↦ ap arity-of e | no n ↦ no-arity k (omega arith) ]
+]
 
 pub no-span : (k : ℕ) → 25 ≤ k → holds-span k ≡ false
 unfolding holds-span

@@ -10,23 +10,36 @@ ghost use Rattle.terms.specs.Forms.{universe, arity-of, holds-span};
 ghost use Rattle.terms.specs.Rows.{pad, row, surface-row};
 ghost use Rattle.rows.specs.Places.{has-place, stored-at};
 
-// How many arguments a term of each kind has: octal digits, the last one for kind 3. An array would be copied where it is read.
-const ARITIES: u64 = 0o241_003_002_061_311_222_120;
-
 // Whether a term of each kind has the start and length of a name or numeral in its row: bits, the last one for kind 0.
 const SPANS: u32 = 0b1_0000_0000_0000_0000_1011_1000;
 
+// How many arguments a term of each kind has. One arm for each kind becomes a table that is read in place.
 pub fn arity(kind: u32) -> u32
     ensures { λ r. ⌜ r ≡ arity-of kind ⌝ }
 {
-    if kind < 3 {
-        return 0;
+    match kind {
+        4 => 2, // pi
+        5 => 1, // lam
+        6 => 2, // app
+        7 => 2, // sigma
+        8 => 2, // pair
+        9 => 1, // fst
+        10 => 1, // snd
+        11 => 3, // id
+        12 => 1, // refl
+        13 => 6, // j
+        14 => 0, // empty
+        15 => 2, // empty-elim
+        16 => 0, // unit
+        17 => 0, // star
+        18 => 3, // unit-elim
+        19 => 0, // nat
+        20 => 0, // zero
+        21 => 1, // succ
+        22 => 4, // nat-elim
+        23 => 2, // ann
+        _ => 0,
     }
-    if 24 < kind {
-        return 0;
-    }
-    let digit = kind as u64 - 3;
-    ((ARITIES >> (3 * digit)) % 8) as u32
 }
 
 pub fn holds_span(kind: u32) -> bool

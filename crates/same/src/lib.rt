@@ -107,7 +107,9 @@ fn same_declaration(
     k: usize,
 ) -> bool
     requires { ⌜ k * 5 + 5 ≤ length (now declarations1) ⌝ }
-    ensures { λ r. ⌜ Decides r (SameDeclaration (now (s .entry)) (now (core1 .entry)) (now (declarations1 .entry)) (now (t .entry)) (now (core2 .entry)) (now (declarations2 .entry)) k) ⌝ }
+    ensures { λ r. ⌜
+        Decides r (SameDeclaration (now (s .entry)) (now (core1 .entry)) (now (declarations1 .entry)) (now (t .entry)) (now (core2 .entry)) (now (declarations2 .entry)) k)
+        ⌝ }
 {
     if !same_record(s, declarations1, t, declarations2, k) {
         return false;
@@ -129,7 +131,9 @@ fn first_difference(
     n: usize,
 ) -> usize
     requires { ⌜ m * 5 ≤ length (now declarations1) ⌝ }
-    ensures { λ r. ⌜ FirstDifferent (now (s .entry)) (now (core1 .entry)) (now (declarations1 .entry)) (now (t .entry)) (now (core2 .entry)) (now (declarations2 .entry)) m n r ⌝ }
+    ensures { λ r. ⌜
+        FirstDifferent (now (s .entry)) (now (core1 .entry)) (now (declarations1 .entry)) (now (t .entry)) (now (core2 .entry)) (now (declarations2 .entry)) m n r
+        ⌝ }
 {
     let mut k = 0;
     while k < m {
@@ -156,7 +160,9 @@ fn compare(
     n: usize,
 ) -> Comparison
     requires { ⌜ m * 5 ≤ length (now declarations1) ⌝ }
-    ensures { λ r. ⌜ Compared (now (s .entry)) (now (core1 .entry)) (now (declarations1 .entry)) (now (t .entry)) (now (core2 .entry)) (now (declarations2 .entry)) m n r ⌝ }
+    ensures { λ r. ⌜
+        Compared (now (s .entry)) (now (core1 .entry)) (now (declarations1 .entry)) (now (t .entry)) (now (core2 .entry)) (now (declarations2 .entry)) m n r
+        ⌝ }
 {
     let k = first_difference(s, core1, declarations1, m, t, core2, declarations2, n);
     if k != m {
@@ -190,7 +196,14 @@ pub fn same(
     declarations2: &mut [u32],
     work: &mut [u32],
 ) -> Comparison
-    ensures { λ r. ⌜ Asked (now (first .entry)) (now (second .entry)) (lengths (tables (now (surface1 .entry)) (now (core1 .entry)) (now (declarations1 .entry)) (now (work .entry)))) (lengths (tables (now (surface2 .entry)) (now (core2 .entry)) (now (declarations2 .entry)) (now (work .entry)))) r (tables (now (surface1 .exit)) (now (core1 .exit)) (now (declarations1 .exit)) (now (work .exit))) (tables (now (surface2 .exit)) (now (core2 .exit)) (now (declarations2 .exit)) (now (work .exit))) ⌝ }
+    ensures { λ r. ⌜
+        Asked (now (first .entry)) (now (second .entry))
+        (lengths (tables (now (surface1 .entry)) (now (core1 .entry)) (now (declarations1 .entry)) (now (work .entry))))
+        (lengths (tables (now (surface2 .entry)) (now (core2 .entry)) (now (declarations2 .entry)) (now (work .entry))))
+        r
+        (tables (now (surface1 .exit)) (now (core1 .exit)) (now (declarations1 .exit)) (now (work .exit)))
+        (tables (now (surface2 .exit)) (now (core2 .exit)) (now (declarations2 .exit)) (now (work .exit)))
+        ⌝ }
 {
     let one = load(first, surface1, core1, declarations1, work);
     match one {

@@ -1,13 +1,14 @@
 -- The index of names: one more byte, the walk from a head along the links, and one more declaration. Assumes nothing.
-use Prim.Native.Nat.{ℕ, zero, suc, _+_, _*_, _/_, _%_, _^_, _≤_, _<_}
+use Prim.Native.Nat.{ℕ, zero, suc, _+_, _-_, _*_, _/_, _%_, _^_, _≤_, _<_}
 use mathlib.Core.Path.{_≡_, refl, sym, _∙_, ap, subst}
 use mathlib.Core.List.{List, [], _∷_}
 use mathlib.Core.Option.{Option, none, some}
 use mathlib.Core.Bool.{Bool, true, false}
 use native.Mathlib.Omega.{arith}
 use native.Mathlib.Decide.{ℕ-discrete}
-use native.Mathlib.Nat.{mod-lt, div-lt-iff-lt-mul, zero-div}
-use lib.ListN.{length, getD, set, drop, drop-of-length-le, length-set, List·getD-eq-default}
+use native.Mathlib.Nat.{mod-lt, div-lt-iff-lt-mul}
+use borrow.Author.Tests.{lt-ltb, le-ltb}
+use lib.ListN.{length, getD, set, drop, drop-of-length-le, length-set}
 use lib.Seq.{getD-set-same, getD-set-other}
 use Rattle.token.proofs.Runs.{drop-next}
 use Rattle.words.specs.Words.{same-bytes}
@@ -40,13 +41,13 @@ pub mark-low : (x : Name) → mark-of x < 4096
 unfolding mark-of
 mark-low x = div-lt-iff-lt-mul {k = 1048576} {x = mixed 0 x} {y = 4096} (omega arith) .1 (omega (arith, mixed-low x 0 (omega arith)))
 
-pub bit-low : (x : Name) (i : ℕ) → bit-of x i < 2
+pub bit-within : (x : Name) (i : ℕ) → i / 8 < length x → bit-of x i ≡ getD x (length x - 1 - i / 8) 0 / 2 ^ (i % 8) % 2
 unfolding bit-of
-bit-low x i = mod-lt (getD x (i / 8) 0 / 2 ^ (i % 8)) (omega arith)
+bit-within x i h = rw (bit-of, lt-ltb (i / 8) (length x) h)
 
 pub bit-behind : (x : Name) (i : ℕ) → length x ≤ i / 8 → bit-of x i ≡ 0
 unfolding bit-of
-bit-behind x i h = ap (λ (b : ℕ). b / 2 ^ (i % 8) % 2) (List·getD-eq-default x 0 h) ∙ ap (λ (b : ℕ). b % 2) (zero-div (2 ^ (i % 8)))
+bit-behind x i h = rw (bit-of, le-ltb (i / 8) (length x) h)
 
 -- None of d declarations from place k on has the name.
 none-named : (x : Name) (s t : List ℕ) (k d : ℕ) → ((j : ℕ) → k ≤ j → j < k + d → x ≡ name-at s t j → ⊥) → none ≡ find x (declared-names s t k d)

@@ -8,6 +8,7 @@ use native.Mathlib.Omega.{arith}
 use native.Mathlib.Numerals.{add-one}
 use native.Mathlib.Nat.{min-le-left}
 use lib.ListN.{length, getD, drop, length-take}
+use lib.Seq.{getD-take, getD-drop}
 use Rattle.words.proofs.Names.{ne-same}
 use Rattle.words.specs.Words.{same-bytes}
 use Rattle.terms.specs.Label.{Name, part}
@@ -55,6 +56,15 @@ module _ (x : Name) where
 -- A part is no longer than it says.
 pub longer : (x : Name) (s : List ℕ) (a n : ℕ) → n < length x → same-bytes x (part s a n) ≡ false
 longer x s a n h = ne-same x (part s a n) (λ q. let e = ap length q in omega (arith, length-take n (drop a s), min-le-left n (length (drop a s))))
+
+-- A part with another last byte.
+pub other-end : (x : Name) (s : List ℕ) (a n : ℕ) → 0 < n → (getD s (a + n - 1) 0 ≡ getD x (n - 1) 0 → ⊥) → same-bytes x (part s a n) ≡ false
+other-end x s a n h q = ne-same x (part s a n) (λ e. q (sym (
+    ap (λ (l : List ℕ). getD l (n - 1) 0) e
+    ∙ getD-take n (drop a s) (n - 1) 0 (omega arith)
+    ∙ getD-drop a s (n - 1) 0
+    ∙ ap (λ (i : ℕ). getD s i 0) (let z : a + (n - 1) ≡ a + n - 1 = omega arith in z)
+    )))
 
 -- The name on top of the locals.
 pub innermost : (s w : List ℕ) (d : ℕ) → 0 < d

@@ -2,10 +2,12 @@
 -- place, as one more than itself, and 0 is none; from a place whose name is another one the walk goes on by one of its two links, which the next bit of
 -- the name looked for chooses. Assumes nothing.
 -- Only contracts of functions that `elaborate` calls on its way cite this.
-use Prim.Native.Nat.{ℕ, _+_, _*_, _/_, _%_, _^_, _<_, _≤_}
+use Prim.Native.Nat.{ℕ, _+_, _-_, _*_, _/_, _%_, _^_, _<_, _≤_}
 use mathlib.Core.Path.{_≡_}
 use mathlib.Core.List.{List, [], _∷_}
 use mathlib.Core.Option.{none, some}
+use mathlib.Core.Bool.{cond}
+use lib.Dec.{ltb}
 use lib.ListN.{length, getD, set}
 use Rattle.terms.specs.Label.{Name, part}
 use Rattle.terms.specs.Resolution.{find}
@@ -31,9 +33,9 @@ mixed m (b ∷ x) = mixed ((m + b) * 374761393 % 4294967296) x
 unfoldable pub mark-of : Name → ℕ
 mark-of x = mixed 0 x / 1048576
 
--- Bit i of a name, counted from the lowest of its first byte, and 0 behind its end: names that differ do so in a bit.
+-- Bit i of a name, counted from the lowest of its last byte towards its first, and 0 then: names that differ do so in a bit.
 unfoldable pub bit-of : Name → ℕ → ℕ
-bit-of x i = getD x (i / 8) 0 / 2 ^ (i % 8) % 2
+bit-of x i = cond (ltb (i / 8) (length x)) (getD x (length x - 1 - i / 8) 0 / 2 ^ (i % 8) % 2) 0
 
 -- The slot of the link of place k for the bit b, behind the heads.
 abbrev pub link-of : ℕ → ℕ → ℕ

@@ -10,6 +10,9 @@ ghost use Rattle.terms.specs.Resolution.{find, core-of};
 ghost use Rattle.scope.specs.Scope.{place-of, core-of-referent, Binders, local-names, declared-names, reference};
 ghost use Rattle.scope.specs.Index.{places, heads, all-slots, mark-of, bit-of, name-at, Indexed, Searched};
 
+// How many words a declaration record has.
+const RECORD: usize = 5;
+
 // The index of names: how many heads it has, and for how many places it has two links each. A source of 65,535 bytes has fewer declarations.
 const HEADS: usize = 4096;
 
@@ -59,7 +62,8 @@ pub fn atom(s: &[u8], start: u32, length: u32) -> &[u8]
     }
 }
 
-// Whether a part of the source is the name x: its length is compared before any byte, where the part lies in the source.
+// Whether a part of the source is the name x: where the part lies in the source, its length is compared first, then its last byte, in which most
+// names of one length differ.
 fn is_name(s: &[u8], start: u32, length: u32, x: &[u8]) -> bool
     ensures { λ r. ⌜ r ≡ same-bytes (now (x .entry)) (part (now (s .entry)) start length) ⌝ }
 {
@@ -71,6 +75,11 @@ fn is_name(s: &[u8], start: u32, length: u32, x: &[u8]) -> bool
     }
     if n != x.len() {
         return false;
+    }
+    if 0 < n {
+        if s[a + n - 1] != x[n - 1] {
+            return false;
+        }
     }
     words::same_bytes(x, &s[a..a + n])
 }
@@ -113,15 +122,16 @@ fn find_declared(s: &[u8], declarations: &[u32], d: usize, x: &[u8]) -> Found
     requires { ⌜ (d * 5 ≤ length (now declarations)) × (d ≤ 4294967295) ⌝ }
     ensures { λ r. ⌜ place-of r ≡ find (now (x .entry)) (declared-names (now (s .entry)) (now (declarations .entry)) 0 d) ⌝ }
 {
-    let mut i: usize = 0;
-    while i < d {
-        let a = declarations[i * 5 + 1];
-        let n = declarations[i * 5 + 2];
+    let mut left = d;
+    while 0 < left {
+        let k = d - left;
+        let a = declarations[k * RECORD + 1];
+        let n = declarations[k * RECORD + 2];
         if is_name(s, a, n, x) {
-            let place = i as u32;
+            let place = k as u32;
             return Found::At(place);
         }
-        i += 1;
+        left -= 1;
     }
     Found::Nothing
 }
@@ -140,7 +150,7 @@ fn mark(x: &[u8]) -> usize
     mixed / SHARE
 }
 
-// Bit i of a name.
+// Bit i of a name, from its end.
 fn bit(x: &[u8], i: usize) -> usize
     ensures { λ r. ⌜ (r ≡ bit-of (now (x .entry)) i) × (r < 2) ⌝ }
 {
@@ -148,7 +158,7 @@ fn bit(x: &[u8], i: usize) -> usize
     if x.len() <= k {
         return 0;
     }
-    let b = x[k] as usize;
+    let b = x[x.len() - 1 - k] as usize;
     (b >> i % 8) % 2
 }
 
@@ -165,8 +175,8 @@ fn find_slot(s: &[u8], declarations: &[u32], index: &[u16], d: usize, x: &[u8]) 
             return Slot::Free(slot);
         }
         let k = e - 1;
-        let a = declarations[k * 5 + 1];
-        let n = declarations[k * 5 + 2];
+        let a = declarations[k * RECORD + 1];
+        let n = declarations[k * RECORD + 2];
         if is_name(s, a, n, x) {
             let place = k as u32;
             return Slot::Held(place);

@@ -14,21 +14,21 @@ use Rattle.stacks.specs.declared.Work.{Work}
 use Rattle.stacks.proofs.Decoding.{length-values}
 
 module _ (op a b : ℕ) where
-  pub is-eval : op ≡ 1 → work-of op a b ≡ Work.Eval a b
+  pub is-eval : op ≡ 0 → work-of op a b ≡ Work.Eval a b
   unfolding work-of
   is-eval e = rw e
 
-  pub is-push-local : op ≡ 2 → work-of op a b ≡ Work.PushLocal a b
+  pub is-push-local : op ≡ 1 → work-of op a b ≡ Work.PushLocal a b
   unfolding work-of
   is-push-local e = rw e
 
-  pub is-pop-local : op ≡ 3 → work-of op a b ≡ Work.PopLocal
+  pub is-pop-local : op ≡ 2 → work-of op a b ≡ Work.PopLocal
   unfolding work-of
   is-pop-local e = rw e
 
-  pub is-build : (op ≡ 1 → ⊥) → (op ≡ 2 → ⊥) → (op ≡ 3 → ⊥) → work-of op a b ≡ Work.Build a b
+  pub is-build : (op ≡ 0 → ⊥) → (op ≡ 1 → ⊥) → (op ≡ 2 → ⊥) → work-of op a b ≡ Work.Build a b
   unfolding work-of
-  is-build p q r = rw (ne-eqb op 1 p, ne-eqb op 2 q, ne-eqb op 3 r, work-of)
+  is-build p q r = rw (ne-eqb op 0 p, ne-eqb op 1 q, ne-eqb op 2 r, work-of)
 
 -- The item on top, from its three words.
 pub popped-work : (w : List ℕ) (t op a b : ℕ) (item : Work) → op ≡ getD w (5120 + t * 3) 0 → a ≡ getD w (5120 + t * 3 + 1) 0 → b ≡ getD w (5120 + t * 3 + 2) 0

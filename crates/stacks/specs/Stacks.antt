@@ -10,14 +10,24 @@ use Rattle.terms.specs.Label.{part}
 use Rattle.scope.specs.Scope.{local-names}
 use Rattle.stacks.specs.declared.Work.{Work}
 
--- A work item's three words: 1 Eval, 2 PushLocal, 3 PopLocal, otherwise Build; and what it holds.
+-- How many names in scope, values and work items there is room for.
+abbrev pub names-room : ℕ
+names-room = 512
+
+abbrev pub values-room : ℕ
+values-room = 3072
+
+abbrev pub works-room : ℕ
+works-room = 3754
+
+-- A work item's three words: 0 Eval, 1 PushLocal, 2 PopLocal, otherwise Build; and what it holds.
 unfoldable pub work-of : ℕ → ℕ → ℕ → Work
 work-of op a b =
-    elim (eqb op 1) [
+    elim (eqb op 0) [
       | true ↦ Work.Eval a b
-      | false ↦ elim (eqb op 2) [
+      | false ↦ elim (eqb op 1) [
         | true ↦ Work.PushLocal a b
-        | false ↦ elim (eqb op 3) [ true ↦ Work.PopLocal | false ↦ Work.Build a b ]
+        | false ↦ elim (eqb op 2) [ true ↦ Work.PopLocal | false ↦ Work.Build a b ]
       ]
     ]
 
@@ -38,13 +48,13 @@ WorkArea w = 16384 ≤ length w
 -- The work items have become `items`, of which there are t; the other stacks are as they were.
 pub record WorkPushed (w w' : List ℕ) (t : ℕ) (items : List Work) : Type 0 where
   pub works : works-in w' t ≡ items
-  pub values : (v : ℕ) → v ≤ 3072 → values-in w' v ≡ values-in w v
-  pub locals : (s : List ℕ) (l : ℕ) → l ≤ 512 → local-names s w' l ≡ local-names s w l
+  pub values : (v : ℕ) → v ≤ values-room → values-in w' v ≡ values-in w v
+  pub locals : (s : List ℕ) (l : ℕ) → l ≤ names-room → local-names s w' l ≡ local-names s w l
 
 pub record ValuePushed (w w' : List ℕ) (v value : ℕ) : Type 0 where
   pub works : (t : ℕ) → works-in w' t ≡ works-in w t
   pub values : values-in w' (v + 1) ≡ values-in w v ++ (value ∷ [])
-  pub locals : (s : List ℕ) (l : ℕ) → l ≤ 512 → local-names s w' l ≡ local-names s w l
+  pub locals : (s : List ℕ) (l : ℕ) → l ≤ names-room → local-names s w' l ≡ local-names s w l
 
 pub record LocalPushed (w w' : List ℕ) (l start n : ℕ) : Type 0 where
   pub works : (t : ℕ) → works-in w' t ≡ works-in w t

@@ -4,11 +4,13 @@ use mathlib.Core.List.{List}
 use Prim.Native.Nat.{ℕ}
 use Rattle.surface.specs.Loading.{Report}
 use Rattle.sulyterom.specs.declared.Numbers.{Numbers}
-use Rattle.sulyterom.specs.Numbers.{numbers, words, told, Tells}
+use Rattle.sulyterom.specs.Numbers.{numbers, words, told, Told}
 
-pub tells : (n : ℕ) (r : Report) (x : Numbers) (answer : List ℕ) (number : ℕ) (answer₁ : List ℕ)
-    → x ≡ numbers r → (number ≡ x .number) × (answer₁ ≡ told n answer (words x)) → Tells n r answer number answer₁
-tells n r x answer number answer₁ e k = record {
+pub tells : {A : Type 0} {Promised : A → Type 0} {reported : A → Report} (n : ℕ) (x : Numbers) (answer : List ℕ) (number : ℕ) (answer₁ : List ℕ) (a : A)
+    → Promised a → x ≡ numbers (reported a) → (number ≡ x .number) × (answer₁ ≡ told n answer (words x)) → Told Promised reported n answer number answer₁
+tells n x answer number answer₁ a h e k = record {
+  given = a;
+  promised = h;
   number-told = k .0 ∙ ap (λ (y : Numbers). y .number) e;
-  words-told = k .1 ∙ ap (λ (y : Numbers). told n answer (words y)) e;
+  values-told = k .1 ∙ ap (λ (y : Numbers). told n answer (words y)) e;
 }

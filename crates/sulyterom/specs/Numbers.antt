@@ -7,9 +7,9 @@ use lib.Dec.{leb}
 use lib.ListN.{length, getD, take, drop}
 use Rattle.token.specs.declared.TokenKind.{TokenKind}
 use Rattle.token.specs.declared.Lexed.{Lexed}
-use Rattle.surface.specs.declared.Answer.{Answer}
 use Rattle.surface.specs.Loading.{Report, report-refusal, report}
 use Rattle.reader.specs.declared.ModuleRead.{ModuleRead}
+use Rattle.lister.specs.declared.Listed.{Listed}
 use Rattle.sulyterom.specs.declared.Numbers.{Numbers}
 
 -- Of reading alone: 0 and the counts of rows and declarations, or the refusal.
@@ -18,18 +18,18 @@ report-read (ModuleRead.Done rows declarations) = record { number = 0; values = 
 report-read (ModuleRead.Refused r) = report-refusal r
 
 -- Of a listing: what loading reports, and then the length of the text.
-abbrev pub report-listed : Answer → ℕ → Report
-report-listed a length = record { number = report a .number; values = report a .values ++ (length ∷ []) }
+abbrev pub report-listed : Listed → Report
+report-listed l = record { number = report (l .answer) .number; values = report (l .answer) .values ++ (l .length ∷ []) }
 
-abbrev pub kind-number : TokenKind → ℕ
-kind-number TokenKind.LParen = 1
-kind-number TokenKind.RParen = 2
-kind-number TokenKind.Atom = 3
-kind-number TokenKind.Eof = 4
+abbrev pub token-number : TokenKind → ℕ
+token-number TokenKind.LParen = 1
+token-number TokenKind.RParen = 2
+token-number TokenKind.Atom = 3
+token-number TokenKind.Eof = 4
 
 -- Of a token: 0, its kind, where it starts and where it ends; or the refusal.
 abbrev pub report-token : Lexed → Report
-report-token (Lexed.Got t) = record { number = 0; values = kind-number (t .kind) ∷ t .start ∷ t .end ∷ [] }
+report-token (Lexed.Got t) = record { number = 0; values = token-number (t .kind) ∷ t .start ∷ t .end ∷ [] }
 report-token (Lexed.Refused r) = report-refusal r
 
 -- A report by value: how many values follow, and these; then 0.
@@ -43,7 +43,10 @@ words x = x .count ∷ x .first ∷ x .second ∷ x .third ∷ []
 abbrev pub told : ℕ → List ℕ → List ℕ → List ℕ
 told n t l = cond (leb n (length t)) (take n l ++ drop n t) t
 
--- What a call tells of an answer: its number is the result, and n words of its report stand in the lent table.
-pub record Tells (n : ℕ) (r : Report) (answer : List ℕ) (number : ℕ) (answer₁ : List ℕ) : Type 0 where
-  pub number-told : number ≡ r .number
-  pub words-told : answer₁ ≡ told n answer (words (numbers r))
+-- What an exported function promises: an answer that is promised of the call, its number as the result, and n numbers of its report in the
+-- lent table.
+pub record Told {A : Type 0} (Promised : A → Type 0) (reported : A → Report) (n : ℕ) (answer : List ℕ) (number : ℕ) (answer₁ : List ℕ) : Type 0 where
+  pub given : A
+  pub promised : Promised given
+  pub number-told : number ≡ reported given .number
+  pub values-told : answer₁ ≡ told n answer (words (numbers (reported given)))

@@ -8,8 +8,10 @@ use crate::reports::report_loaded;
 use crate::reports::report_read;
 use crate::reports::tell;
 ghost use mathlib.Core.List.{[]};
-ghost use Rattle.loader.specs.Leaving.{lengths-of};
-ghost use Rattle.sulyterom.specs.Promises.{LoadTold, ParseTold};
+ghost use Rattle.surface.specs.Tables.{tables};
+ghost use Rattle.surface.specs.Loading.{report, Loads};
+ghost use Rattle.loader.specs.Parsed.{Parses};
+ghost use Rattle.sulyterom.specs.Numbers.{report-read, Told};
 
 // An answer as plain numbers: what a call answers; then how many values follow, and these, and 0 behind them.
 pub struct Numbers {
@@ -30,7 +32,7 @@ pub extern "C" fn sulyterom_load(
     work: &mut [u32],
     answer: &mut [u64],
 ) -> u8
-    ensures { λ r. ⌜ LoadTold (now (source .entry)) (lengths-of (now (surface .entry)) (now (core .entry)) (now (declarations .entry)) (now (work .entry))) (now (answer .entry)) r (now (surface .exit)) (now (core .exit)) (now (declarations .exit)) (now (work .exit)) (now (answer .exit)) ⌝ }
+    ensures { λ r. ⌜ Told (λ a. Loads (now (source .entry)) (tables (now (surface .entry)) (now (core .entry)) (now (declarations .entry)) (now (work .entry))) a (tables (now (surface .exit)) (now (core .exit)) (now (declarations .exit)) (now (work .exit)))) report 3 (now (answer .entry)) r (now (answer .exit)) ⌝ }
 {
     let loaded = loader::load(source, surface, core, declarations, work);
     let numbers = report_loaded(loaded);
@@ -46,7 +48,7 @@ pub extern "C" fn sulyterom_parse(
     work: &mut [u32],
     answer: &mut [u64],
 ) -> u8
-    ensures { λ r. ⌜ ParseTold (now (source .entry)) (lengths-of (now (surface .entry)) [] (now (declarations .entry)) (now (work .entry))) (now (answer .entry)) r (now (surface .exit)) (now (declarations .exit)) (now (work .exit)) (now (answer .exit)) ⌝ }
+    ensures { λ r. ⌜ Told (λ a. Parses (now (source .entry)) (tables (now (surface .entry)) [] (now (declarations .entry)) (now (work .entry))) a (tables (now (surface .exit)) [] (now (declarations .exit)) (now (work .exit)))) report-read 3 (now (answer .entry)) r (now (answer .exit)) ⌝ }
 {
     let read = loader::parse_surface(source, surface, declarations, work);
     let numbers = report_read(read);

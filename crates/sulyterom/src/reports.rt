@@ -1,5 +1,6 @@
 // An answer as plain numbers, and how they are told.
 use crate::Numbers;
+use lister::Listed;
 use reader::ModuleRead;
 use same::Comparison;
 use surface::Answer;
@@ -9,12 +10,11 @@ use token::Place;
 use token::Refusal;
 use token::TokenKind;
 ghost use mathlib.Core.Path.{_≡_};
-ghost use mathlib.Core.List.{[], _∷_};
-ghost use Rattle.surface.specs.declared.Answer.the-variants.{Refused};
+ghost use mathlib.Core.List.{[], _∷_, _++_};
 ghost use Rattle.surface.specs.Loading.{offsets, report-refusal, report};
 ghost use Rattle.surface.specs.Dependence.{report-dependence};
 ghost use Rattle.same.specs.Comparison.{report-comparison};
-ghost use Rattle.sulyterom.specs.Numbers.{numbers, words, told, kind-number, report-read, report-listed, report-token};
+ghost use Rattle.sulyterom.specs.Numbers.{numbers, words, told, token-number, report-read, report-listed, report-token};
 
 fn report_refusal(refusal: Refusal) -> Numbers
     ensures { λ r. ⌜ r ≡ numbers (report-refusal refusal) ⌝ }
@@ -139,7 +139,7 @@ pub fn report_comparison(answer: Comparison) -> Numbers
 }
 
 fn report_refused_text(refusal: Refusal, length: u64) -> Numbers
-    ensures { λ r. ⌜ r ≡ numbers (report-listed (Refused refusal) length) ⌝ }
+    ensures { λ r. ⌜ r ≡ numbers (record { number = refusal .class; values = offsets (refusal .place) ++ (length ∷ []) }) ⌝ }
 {
     let number = refusal.class;
     let place = refusal.place;
@@ -161,10 +161,12 @@ fn report_refused_text(refusal: Refusal, length: u64) -> Numbers
     }
 }
 
-// What loading tells, and then a text's length.
-pub fn report_listed(answer: Answer, length: u64) -> Numbers
-    ensures { λ r. ⌜ r ≡ numbers (report-listed answer length) ⌝ }
+// What loading tells, and then the text's length.
+pub fn report_listed(listed: Listed) -> Numbers
+    ensures { λ r. ⌜ r ≡ numbers (report-listed listed) ⌝ }
 {
+    let length = listed.length as u64;
+    let answer = listed.answer;
     match answer {
         Answer::Loaded { rows, declarations } => Numbers {
             number: 0,
@@ -177,8 +179,8 @@ pub fn report_listed(answer: Answer, length: u64) -> Numbers
     }
 }
 
-fn kind_number(kind: TokenKind) -> u64
-    ensures { λ r. ⌜ r ≡ kind-number kind ⌝ }
+fn token_number(kind: TokenKind) -> u64
+    ensures { λ r. ⌜ r ≡ token-number kind ⌝ }
 {
     match kind {
         TokenKind::LParen => 1,
@@ -197,7 +199,7 @@ pub fn report_token(lexed: Lexed) -> Numbers
             Numbers {
                 number: 0,
                 count: 3,
-                first: kind_number(kind),
+                first: token_number(kind),
                 second: t.start as u64,
                 third: t.end as u64,
             }

@@ -2,10 +2,11 @@
 use crate::reports::report_listed;
 use crate::reports::report_token;
 use crate::reports::tell_all;
-ghost use Rattle.loader.specs.Leaving.{lengths-of};
+ghost use mathlib.Core.Path.{_≡_};
+ghost use Rattle.surface.specs.Tables.{tables};
 ghost use Rattle.token.specs.Token.{next-token};
-ghost use Rattle.sulyterom.specs.Numbers.{Tells, report-token};
-ghost use Rattle.sulyterom.specs.Promises.{ListTold};
+ghost use Rattle.lister.specs.Lists.{Lists};
+ghost use Rattle.sulyterom.specs.Numbers.{report-listed, report-token, Told};
 
 // Loads a source and writes its listing, or the line of its refusal, into `text`. The values are those of loading and then the text's length;
 // a text that does not fit is cut, and its length is told as one more than there is room for. `answer` takes four numbers.
@@ -19,18 +20,17 @@ pub extern "C" fn sulyterom_list(
     text: &mut [u8],
     answer: &mut [u64],
 ) -> u8
-    ensures { λ r. ⌜ ListTold (now (source .entry)) (lengths-of (now (surface .entry)) (now (core .entry)) (now (declarations .entry)) (now (work .entry))) (now (text .entry)) (now (answer .entry)) r (now (surface .exit)) (now (core .exit)) (now (declarations .exit)) (now (work .exit)) (now (text .exit)) (now (answer .exit)) ⌝ }
+    ensures { λ r. ⌜ Told (λ l. Lists (now (source .entry)) (tables (now (surface .entry)) (now (core .entry)) (now (declarations .entry)) (now (work .entry))) (now (text .entry)) l (tables (now (surface .exit)) (now (core .exit)) (now (declarations .exit)) (now (work .exit))) (now (text .exit))) report-listed 4 (now (answer .entry)) r (now (answer .exit)) ⌝ }
 {
     let listed = lister::list(source, surface, core, declarations, work, text);
-    let loaded = listed.answer;
-    let numbers = report_listed(loaded, listed.length as u64);
+    let numbers = report_listed(listed);
     tell_all(answer, numbers)
 }
 
 // The token at or behind an offset: its kind (1 `(`, 2 `)`, 3 an atom, 4 the end), where it starts and where it ends; or the refusal of a byte.
 #[no_mangle]
 pub extern "C" fn sulyterom_token(source: &[u8], at: usize, answer: &mut [u64]) -> u8
-    ensures { λ r. ⌜ Tells 4 (report-token (next-token (now (source .entry)) at)) (now (answer .entry)) r (now (answer .exit)) ⌝ }
+    ensures { λ r. ⌜ Told (λ l. l ≡ next-token (now (source .entry)) at) report-token 4 (now (answer .entry)) r (now (answer .exit)) ⌝ }
 {
     let read = lexer::lex(source, at);
     let lexed = read.lexed;

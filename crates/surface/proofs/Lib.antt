@@ -10,6 +10,7 @@ pub mod Complete
 pub mod CompleteDeclarations
 pub mod CompleteModule
 pub mod Acceptance
+pub mod Accepted
 pub mod Demand
 pub mod Points
 pub mod KeptLengths

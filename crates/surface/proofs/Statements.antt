@@ -3,12 +3,13 @@ use mathlib.Core.List.{List}
 use native.Mathlib.Omega.{arith}
 use Rattle.terms.proofs.Widths.{total-surface}
 use Rattle.surface.specs.Card.{StarredReadings}
-use Rattle.surface.specs.Statements.{Sound, Complete, Unique, ReadsExactly, LoadsExactly, Demand3, Demand3In, LoadReports, ReportTells, AskReports}
+use Rattle.surface.specs.Statements.{Sound, Complete, Unique, ReadsExactly, LoadsExactly, Demand1, Demand3, Demand3In, LoadReports, ReportTells, AskReports}
 use Rattle.surface.specs.Tables.{in-words}
 use Rattle.surface.proofs.Starred as starred
 use Rattle.surface.proofs.SoundModule as reading-sound
 use Rattle.surface.proofs.CompleteModule as reading-complete
 use Rattle.surface.proofs.Acceptance as acceptance
+use Rattle.surface.proofs.Accepted as accepted
 use Rattle.surface.proofs.Demand as demand
 use Rattle.surface.proofs.Reports as reports
 use Prim.Native.Nat.{ℕ}
@@ -32,6 +33,9 @@ reads-exactly = acceptance.reads-exactly
 
 pub loads-exactly : LoadsExactly
 loads-exactly = acceptance.loads-exactly
+
+pub demand-1 : Demand1
+demand-1 = accepted.demand-1
 
 pub demand-3 : Demand3
 demand-3 = demand.demand-3

@@ -7,6 +7,7 @@ use mathlib.Core.Option.{none}
 use mathlib.Core.Bool.{false}
 use Prim.Native.Nat.{ℕ, suc, _/_, _≤_, max}
 use lib.ListN.{length}
+use Rattle.token.specs.declared.Refusal.{Refusal}
 use Rattle.utf8.specs.Utf8.{byte-order-mark, WellFormed}
 use Rattle.terms.specs.Tree.{Forest, nil, node}
 use Rattle.terms.specs.Label.{Label, Declaration, trees}
@@ -18,7 +19,7 @@ use Rattle.surface.specs.declared.Dependence.{Dependence}
 use Rattle.surface.specs.Grammar.{Derives}
 use Rattle.surface.specs.Reader.{Position, start, Result, done, refused}
 use Rattle.surface.specs.Reading.{read-module}
-use Rattle.surface.specs.Tables.{Each, Lengths, Tables, lengths, in-words, leaves}
+use Rattle.surface.specs.Tables.{Each, Lengths, Tables, lengths, blank, in-words, leaves}
 use Rattle.surface.specs.Reports.{Report, accepted, report-refusal, report, report-dependence}
 use Rattle.surface.specs.Loading.{reading, loading, Loads}
 use Rattle.surface.specs.SameCore.{SameCore, Accepts}
@@ -82,6 +83,16 @@ abbrev pub LoadsExactly : Type 0
 LoadsExactly =
     (s : List ℕ) (z : Lengths) (ds : List Declaration)
     → ((q : Position) × (loading s z start ≡ done ds q)) ↔ (Readable s ds × Enough z ds × (first-refused s [] ds ≡ none))
+
+-- DEMAND 1, about a call of `load`, with tables of any lengths and former contents: it accepts exactly the sources that are readable, for which
+-- the storage is enough, and no name of which is refused; where it refuses, every lent table is 0 afterwards.
+abbrev pub Acceptable : List ℕ → Lengths → Type 0
+Acceptable s z = (ds : List Declaration) × Readable s ds × Enough z ds × (first-refused s [] ds ≡ none)
+
+abbrev pub Demand1 : Type 0
+Demand1 =
+    (s : List ℕ) (before : Tables) (a : Answer) (after : Tables) → Loads s before a after
+    → (Accepts (leaves a after) ↔ Acceptable s (lengths before)) × ((r : Refusal) → a ≡ Answer.Refused r → after ≡ blank (lengths before))
 
 -- DEMAND 3, about what two calls leave. `Loads` is the promise of `load`, so of any two calls that accept their sources, with tables of any
 -- lengths and former contents: what they leave is the same core exactly if the two sources agree.

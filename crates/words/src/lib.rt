@@ -1,11 +1,11 @@
 // Atoms as words, each a part of the source: reserved words, identifiers, numerals, and equal names.
 // The port of `is_reserved`, `is_identifier` and the test of `parse_natural` in surface/parser.rs. Document 01, "The token".
 ghost use mathlib.Core.Path.{_≡_};
-ghost use Prim.Native.Nat.{_+_, _≤_, _<_};
-ghost use lib.ListN.{length, take, drop};
+ghost use Prim.Native.Nat.{_≤_, _<_};
+ghost use lib.ListN.{length};
 ghost use Rattle.token.specs.Token.{digit};
 ghost use Rattle.words.specs.Words.{same-bytes, word-index, reserved, name-start, name-byte, identifier, numeral, name-test};
-ghost use Rattle.words.specs.Differences.{first-difference, Shared};
+ghost use Rattle.words.specs.Differences.{first-difference};
 ghost use Rattle.words.specs.Numbers.{number-of};
 
 pub enum NameTest {
@@ -14,48 +14,12 @@ pub enum NameTest {
     NotIdentifier,
 }
 
-// How many bytes are compared together.
-const BLOCK: usize = 8;
-
-// Whether two atoms have an equal block at `at`. This loop becomes a few instructions on the whole block.
-fn same_block(a: &[u8], b: &[u8], at: usize) -> bool
-    requires { ⌜ at + 8 ≤ length (now a) ⌝ }
-    requires { ⌜ at + 8 ≤ length (now b) ⌝ }
-    ensures { λ r. ⌜ r ≡ same-bytes (take 8 (drop at (now (a .entry)))) (take 8 (drop at (now (b .entry)))) ⌝ }
-{
-    let mut all = true;
-    let mut i = 0;
-    while i < BLOCK {
-        if a[at + i] != b[at + i] {
-            all = false;
-        }
-        i += 1;
-    }
-    all
-}
-
-// Behind the blocks from the beginning on that two atoms of one length share.
-fn same_blocks(a: &[u8], b: &[u8]) -> usize
-    requires { ⌜ length (now a) ≡ length (now b) ⌝ }
-    ensures { λ r. ⌜ Shared (now (a .entry)) (now (b .entry)) r ⌝ }
-{
-    let n = a.len();
-    let mut i = 0;
-    while BLOCK <= n - i {
-        if !same_block(a, b, i) {
-            return i;
-        }
-        i += BLOCK;
-    }
-    i
-}
-
 // The first place where two atoms of one length differ; their length where there is none.
 fn first_difference(a: &[u8], b: &[u8]) -> usize
     requires { ⌜ length (now a) ≡ length (now b) ⌝ }
     ensures { λ r. ⌜ r ≡ first-difference (now (a .entry)) (now (b .entry)) ⌝ }
 {
-    let mut i = same_blocks(a, b);
+    let mut i = 0;
     while i < a.len() {
         if a[i] != b[i] {
             return i;

@@ -23,17 +23,18 @@ pub fn wild(size: usize) -> String {
     module(size, Layout::Wild, "")
 }
 
-/// The first of the random modules that is long enough, cut off where the room ends.
+/// The first of the random modules that fills nine tenths of the room, cut off where the room ends.
 fn module(size: usize, layout: Layout, comment: &str) -> String {
     let shape = Shape { declarations: size / 20, ..SHAPE };
-    let longest = |seed| {
+    let of_seed = |seed| {
         let mut prng = Prng::new(seed);
-        let declarations = generate(&mut prng, &shape).declarations;
-        let texts: Vec<String> = declarations.into_iter().map(|one| printed(one, layout, &mut prng)).collect();
-        (texts.iter().map(String::len).sum::<usize>() > size).then_some(texts)
+        let mut declarations = generate(&mut prng, &shape).declarations.into_iter();
+        filled(size, |_, _| match declarations.next() {
+            Some(declaration) => format!("{comment}{}\n", printed(declaration, layout, &mut prng)),
+            None => String::new(),
+        })
     };
-    let texts = (0..).find_map(longest).expect("there is no last seed");
-    filled(size, |place, _| format!("{comment}{}\n", texts[place]))
+    (0..).map(of_seed).find(|text| text.len() * 10 >= size * 9).expect("there is no last seed")
 }
 
 fn printed(declaration: Declaration, layout: Layout, prng: &mut Prng) -> String {

@@ -1,7 +1,11 @@
 -- `build_term` meets its contract. Assumes nothing.
-use mathlib.Core.Path.{_∙_}
+use mathlib.Core.Path.{ap, _∙_}
+use lib.ListN.{length, drop}
+use Prim.Native.Nat.{_+_, _-_}
+use Rattle.stacks.specs.Stacks.{values-in}
 use native.Mathlib.Omega.{arith}
 use Rattle.rows.proofs.Arities.{arity-at-most-six}
+use Rattle.rows.proofs.Words.{length-pad}
 use Rattle.elaborate.proofs.Finishing.{form-done, built-row}
 use borrow.Author.Needs.{needs}
 use Rattle.elaborate.proofs.build_term.Statement.{statement}
@@ -20,10 +24,17 @@ cast-pop-values : tie.Need-cast-pop-values
 cast-pop-values c = search needs
 
 pop-values-requires : tie.Need-pop-values-requires
-pop-values-requires c κs = search needs
+pop-values-requires c κs =
+    let o = c .before .before .before .before .before in
+    let n = c .before .before .arity in
+    (omega (arith, n .ensures), omega (arith, n .ensures, arity-at-most-six (o .args .kind)), o .pre .2)
 
-core-row-requires : tie.Need-core-row-requires
-core-row-requires c κs = search needs
+form-row-requires : tie.Need-form-row-requires
+form-row-requires c κs =
+    let a = c .before .before .before .before .before .before .args in
+    let n = c .before .before .before .arity .result in
+    let v = a .st .values - n in
+    ap length (c .pop-values .ensures) ∙ length-pad 6 (drop v (values-in (a .work .now) (v + n)))
 
 finish-requires : tie.Need-finish-requires
 finish-requires c κs = search needs
@@ -36,12 +47,10 @@ same-length-2 c = search needs
 
 returns : tie.Need-returns
 returns c =
-    let o = c .before .before .before .before .before .before .before .before .before .before .before .before .before .before in
-    let a = o .args in
+    let a = c .before .before .before .before .before .before .before .before .before .before .before .before .before .before .args in
     let n = c .before .before .before .before .before .before .before .before .before .before .before .arity in
     form-done (a .kind) (n .result) (a .st) _ (n .ensures)
-    (c .before .before .before .before .before .before .before .core-row .ensures ∙ built-row (a .work .now) (a .st) (a .kind) (n .result) _ (n .ensures) (omega (arith, n .ensures))
-    (c .before .before .before .before .before .before .before .before .pop-values .ensures (omega (arith, n .ensures)) (omega (arith, n .ensures, arity-at-most-six (a .kind)))))
+    (c .before .before .before .before .before .before .before .form-row .ensures ∙ built-row (a .work .now) (a .st) (a .kind) (n .result) _ (n .ensures) (omega (arith, n .ensures)) (c .before .before .before .before .before .before .before .before .pop-values .ensures))
     (c .before .before .before .before .finish .ensures)
 
 pub build-term-spec : {M : Type 1} → statement M
@@ -53,7 +62,7 @@ build-term-spec =
     sub-v
     cast-pop-values
     pop-values-requires
-    core-row-requires
+    form-row-requires
     finish-requires
     same-length
     same-length-2

@@ -1,11 +1,11 @@
 -- `elaborate_term` meets its contract: the whole outcome is what the state and the tables come to. Assumes nothing.
-use mathlib.Core.Path.{_≡_, refl, _∙_}
+use mathlib.Core.Path.{_≡_, refl, sym, _∙_, subst}
 use native.Mathlib.Omega.{arith}
-use borrow.Author.Needs.{needs}
 use lib.ListN.{length}
 use Rattle.stacks.specs.Stacks.{works-in}
 use Rattle.elaborate.specs.Machine.{weight}
 use Rattle.elaborate.proofs.TermLoop.{Elaborating, started, went, goes-on, ended, stops}
+use borrow.Author.Needs.{needs}
 use Rattle.elaborate.proofs.elaborate_term.Statement.{statement}
 use Rattle.elaborate.proofs.elaborate_term.Tie as tie
 
@@ -16,26 +16,25 @@ Inv-loop s surface declarations core₀ work₀ index root rows d st₀ core wor
 abbrev μ-loop : tie.MeasureT-loop
 μ-loop s surface declarations core₀ work₀ index root rows d st₀ core work st = weight (works-in work (st .works))
 
-push-work-requires : tie.Need-push-work-requires Inv-loop μ-loop
-push-work-requires c κs = search needs
+begin-term-requires : tie.Need-begin-term-requires Inv-loop μ-loop
+begin-term-requires c κs = search needs
 
 loop-holds : tie.Need-loop-holds Inv-loop μ-loop
 loop-holds c =
     let o = c .before .before .before .before .before .before .before .before .before .before in
     let a = o .args in
-    let k = c .before .before .push-work in
-    (started (a .s .now) (a .surface .now) (a .declarations .now) (a .index .now) (a .rows) (a .d) (a .root) (a .core .now) (a .work .now) (k .last .0) (o .pre) (k .kept .0) (k .ensures (omega arith) (o .pre .area)), refl, refl)
+    let k = c .before .before .begin-term in
+    (subst (Elaborating (a .s .now) (a .surface .now) (a .declarations .now) (a .index .now) (a .rows) (a .d) (a .root) (a .core .now) (a .core .now) (k .last .0)) (sym (k .ensures .0)) (started (a .s .now) (a .surface .now) (a .declarations .now) (a .index .now) (a .rows) (a .d) (a .root) (a .core .now) (a .work .now) (k .last .0) (o .pre) (k .kept .0) (k .ensures .1)), refl, refl)
 
 same-length : tie.Need-same-length Inv-loop μ-loop
 same-length c = c .before .loop .inv .1
 
 same-length-2 : tie.Need-same-length-2 Inv-loop μ-loop
-same-length-2 c = c .before .loop .inv .2 ∙ c .before .before .before .before .push-work .kept .0
+same-length-2 c = c .before .loop .inv .2 ∙ c .before .before .before .before .begin-term .kept .0
 
 returns : tie.Need-returns Inv-loop μ-loop
 returns c =
-    let o = c .before .before .before .before .before .before .before .before .before .before .before .before in
-    let a = o .args in
+    let a = c .before .before .before .before .before .before .before .before .before .before .before .before .args in
     let l = c .before .loop in
     ended (a .s .now) (a .surface .now) (a .declarations .now) (a .index .now) (a .rows) (a .d) (a .root) (a .core .now) (l .core) (l .work) (l .st) (l .inv .0) (c .if1 .taken)
 
@@ -70,7 +69,7 @@ same-length-3 : tie.Need-same-length-3 Inv-loop μ-loop
 same-length-3 c = c .before .before .before .before .before .before .before .work-step .kept .1 .1 .1 .0 ∙ c .before .before .before .before .before .before .before .before .before .before .before .loop .inv .1
 
 same-length-4 : tie.Need-same-length-4 Inv-loop μ-loop
-same-length-4 c = c .before .before .before .before .before .before .before .work-step .kept .1 .1 .1 .1 .0 ∙ c .before .before .before .before .before .before .before .before .before .before .before .loop .inv .2 ∙ c .before .before .before .before .before .before .before .before .before .before .before .before .before .before .push-work .kept .0
+same-length-4 c = c .before .before .before .before .before .before .before .work-step .kept .1 .1 .1 .1 .0 ∙ c .before .before .before .before .before .before .before .before .before .before .before .loop .inv .2 ∙ c .before .before .before .before .before .before .before .before .before .before .before .before .before .before .begin-term .kept .0
 
 returns-2 : tie.Need-returns-2 Inv-loop μ-loop
 returns-2 c =
@@ -86,7 +85,7 @@ elaborate-term-spec =
     (tie.spec
     Inv-loop
     μ-loop
-    push-work-requires
+    begin-term-requires
     loop-holds
     same-length
     same-length-2

@@ -3,40 +3,49 @@ use Prim.Native.Nat.{_-_}
 use mathlib.Core.Path.{sym, _∙_}
 use native.Mathlib.Omega.{arith}
 use Rattle.elaborate.proofs.Finishing.{row-as}
-use Rattle.elaborate.proofs.Steps.{eval-bounds, out-of-range, reference-stepped, leaf-stepped, too-deep, form-stepped}
+use Rattle.elaborate.proofs.Steps.{eval-bounds, as-state, stopped, out-of-range, reference-stepped, leaf-stepped, too-deep, form-stepped}
 use borrow.Author.Needs.{needs}
 use Rattle.elaborate.proofs.eval.Statement.{statement}
 use Rattle.elaborate.proofs.eval.Tie as tie
 
+nameless-requires : tie.Need-nameless-requires
+nameless-requires c κs = search needs
+
 returns : tie.Need-returns
 returns c =
-    let o = c .before .before .before .before .before .before .before in
+    let o = c .before .before .before .before .before .before .before .before in
     let a = o .args in
-    out-of-range (a .s .now) (a .surface .now) (a .declarations .now) (a .rows) (a .d) (a .core .now) (a .work .now) (a .st) (a .id) (a .left) (o .pre .1) (omega arith)
-
-mul-a : tie.Need-mul-a
-mul-a c = search needs
+    stopped (a .s .now) (a .surface .now) (a .declarations .now) (a .rows) (a .d) (a .core .now) (a .work .now) (a .st) _ _ _ _ _ _ (c .nameless .ensures) (out-of-range (a .s .now) (a .surface .now) (a .declarations .now) (a .rows) (a .d) (a .core .now) (a .work .now) (a .st) (a .id) (a .left) (o .pre .1) (let x = c .before .if1 .taken in omega arith))
 
 mul-kind : tie.Need-mul-kind
 mul-kind c = search needs
 
+mul-kind-2 : tie.Need-mul-kind-2
+mul-kind-2 c = search needs
+
 shared-slice-read-kind : tie.Need-shared-slice-read-kind
 shared-slice-read-kind c = search needs
-
-add-start : tie.Need-add-start
-add-start c = search needs
 
 mul-start : tie.Need-mul-start
 mul-start c = search needs
 
+add-start : tie.Need-add-start
+add-start c = search needs
+
+mul-start-2 : tie.Need-mul-start-2
+mul-start-2 c = search needs
+
 shared-slice-read-start : tie.Need-shared-slice-read-start
 shared-slice-read-start c = search needs
+
+mul-length : tie.Need-mul-length
+mul-length c = search needs
 
 add-length : tie.Need-add-length
 add-length c = search needs
 
-mul-length : tie.Need-mul-length
-mul-length c = search needs
+mul-length-2 : tie.Need-mul-length-2
+mul-length-2 c = search needs
 
 shared-slice-read-length : tie.Need-shared-slice-read-length
 shared-slice-read-length c = search needs
@@ -89,12 +98,15 @@ returns-3 c =
     leaf-stepped (a .s .now) (a .surface .now) (a .declarations .now) (a .rows) (a .d) (a .core .now) (a .work .now) (a .st) (a .id) (a .left) (o .pre .1) (let x = c .before .before .before .before .before .before .before .before .before .before .before .before .before .before .if1 .left in omega arith) (c .before .before .before .before .before .before .before .before .before .before .if2 .left) (k .result) (k .last .0) (k .last .1 .0)
     (sym (n .ensures) ∙ c .before .before .before .before .before .before .before .before .if3 .taken) (row-as (c .before .before .before .before .before .before .before .core-row .ensures) (k .ensures))
 
+nameless-requires-2 : tie.Need-nameless-requires-2
+nameless-requires-2 c κs = search needs
+
 returns-4 : tie.Need-returns-4
 returns-4 c =
-    let o = c .before .before .before .before .before .before .before .before .before .before .before .before .before .before in
+    let o = c .before .before .before .before .before .before .before .before .before .before .before .before .before .before .before in
     let a = o .args in
-    let n = c .before .before .arity in
-    too-deep (a .s .now) (a .surface .now) (a .declarations .now) (a .rows) (a .d) (a .core .now) (a .work .now) (a .st) (a .id) (a .left) (o .pre .1) (let x = c .before .before .before .before .before .before .before .if1 .left in omega arith) (c .before .before .before .if2 .left) (λ z. c .before .if3 .left (n .ensures ∙ z)) (c .if4 .taken)
+    let n = c .before .before .before .arity in
+    stopped (a .s .now) (a .surface .now) (a .declarations .now) (a .rows) (a .d) (a .core .now) (a .work .now) (a .st) _ _ _ _ _ _ (c .nameless2 .ensures) (too-deep (a .s .now) (a .surface .now) (a .declarations .now) (a .rows) (a .d) (a .core .now) (a .work .now) (a .st) (a .id) (a .left) (o .pre .1) (let x = c .before .before .before .before .before .before .before .before .if1 .left in omega arith) (c .before .before .before .before .if2 .left) (λ z. c .before .before .if3 .left (n .ensures ∙ z)) (c .before .if4 .taken))
 
 sub-schedule-form : tie.Need-sub-schedule-form
 sub-schedule-form c = search needs
@@ -118,22 +130,25 @@ returns-5 c =
     let a = o .args in
     let k = c .before .before .schedule-form in
     let n = c .before .before .before .before .before .before .arity in
-    form-stepped (a .s .now) (a .surface .now) (a .declarations .now) (a .rows) (a .d) (a .core .now) (a .work .now) (a .st) (a .id) (a .left) (o .pre .1) (let x = c .before .before .before .before .before .before .before .before .before .before .before .if1 .left in omega arith) (c .before .before .before .before .before .before .before .if2 .left) (a .left - 1) (k .result) (k .last .1 .0)
-    (λ z. c .before .before .before .before .before .if3 .left (n .ensures ∙ z)) (let x = c .before .before .before .before .if4 .left in omega arith) (k .ensures)
+    as-state (a .s .now) (a .surface .now) (a .declarations .now) (a .rows) (a .d) (a .core .now) (a .work .now) (a .st) (k .ensures .state)
+    (form-stepped (a .s .now) (a .surface .now) (a .declarations .now) (a .rows) (a .d) (a .core .now) (a .work .now) (a .st) (a .id) (a .left) (o .pre .1) (let x = c .before .before .before .before .before .before .before .before .before .before .before .if1 .left in omega arith) (c .before .before .before .before .before .before .before .if2 .left) (a .left - 1) (k .result .works) (k .last .1 .0) (λ z. c .before .before .before .before .before .if3 .left (n .ensures ∙ z)) (let x = c .before .before .before .before .if4 .left in omega arith) (k .ensures .items))
 
 pub eval-spec : {M : Type 1} → statement M
 eval-spec =
     tie.close
     (tie.spec
+    nameless-requires
     returns
-    mul-a
     mul-kind
+    mul-kind-2
     shared-slice-read-kind
-    add-start
     mul-start
+    add-start
+    mul-start-2
     shared-slice-read-start
-    add-length
     mul-length
+    add-length
+    mul-length-2
     shared-slice-read-length
     eval-reference-requires
     same-length
@@ -145,6 +160,7 @@ eval-spec =
     same-length-3
     same-length-4
     returns-3
+    nameless-requires-2
     returns-4
     sub-schedule-form
     schedule-form-requires

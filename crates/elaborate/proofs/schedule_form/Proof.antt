@@ -1,6 +1,6 @@
 -- `schedule_form` meets its contract. Assumes nothing.
 use Prim.Native.Nat.{ℕ}
-use mathlib.Core.Path.{ap, ap₂, _∙_}
+use mathlib.Core.Path.{refl, ap, ap₂, _∙_}
 use mathlib.Core.List.{List}
 use native.Mathlib.Omega.{arith}
 use lib.ListN.{length, take}
@@ -12,23 +12,26 @@ use borrow.Author.Needs.{needs}
 use Rattle.elaborate.proofs.schedule_form.Statement.{statement}
 use Rattle.elaborate.proofs.schedule_form.Tie as tie
 
-mul-a : tie.Need-mul-a
-mul-a c = search needs
+mul-start : tie.Need-mul-start
+mul-start c = search needs
 
 add-start : tie.Need-add-start
 add-start c = search needs
 
-mul-start : tie.Need-mul-start
-mul-start c = search needs
+mul-start-2 : tie.Need-mul-start-2
+mul-start-2 c = search needs
 
 shared-slice-read-start : tie.Need-shared-slice-read-start
 shared-slice-read-start c = search needs
 
+mul-length : tie.Need-mul-length
+mul-length c = search needs
+
 add-length : tie.Need-add-length
 add-length c = search needs
 
-mul-length : tie.Need-mul-length
-mul-length c = search needs
+mul-length-2 : tie.Need-mul-length-2
+mul-length-2 c = search needs
 
 shared-slice-read-length : tie.Need-shared-slice-read-length
 shared-slice-read-length c = search needs
@@ -69,20 +72,24 @@ returns c =
     let n = c .before .before .before .before .before .before .before .before .before .before .arity in
     let g = c .before .before .before .before .before .before .before .before .before .holds-span in
     let x = c .before .before .before .before .before .before .before .before .row-children in
-    form-pushed (a .t) (a .kind) (row-word (a .surface .now) (a .id) 1) (row-word (a .surface .now) (a .id) 2) (a .left) (a .id) _ _
-    (ap₂ (λ (m : ℕ) (l : List ℕ). take m l) (n .ensures) (x .ensures ∙ ap (six-at (a .surface .now) (a .id)) (g .ensures)))
-    (c .before .before .before .before .before .before .push-work .ensures (omega arith) (o .pre .2)) (c .before .before .schedule .ensures)
+    record {
+      state = refl;
+      items = form-pushed (a .st .works) (a .kind) (row-word (a .surface .now) (a .id) 1) (row-word (a .surface .now) (a .id) 2) (a .left) (a .id) _ _
+          (ap₂ (λ (m : ℕ) (l : List ℕ). take m l) (n .ensures) (x .ensures ∙ ap (six-at (a .surface .now) (a .id)) (g .ensures)))
+          (c .before .before .before .before .before .before .push-work .ensures) (c .before .before .schedule .ensures);
+    }
 
 pub schedule-form-spec : {M : Type 1} → statement M
 schedule-form-spec =
     tie.close
     (tie.spec
-    mul-a
-    add-start
     mul-start
+    add-start
+    mul-start-2
     shared-slice-read-start
-    add-length
     mul-length
+    add-length
+    mul-length-2
     shared-slice-read-length
     arity-requires
     cast-n

@@ -28,15 +28,10 @@ same-length c = search needs
 
 returns : tie.Need-returns
 returns c =
-    let o = c .before .before .before .before .before .before .before .before .before .before .before .before .before .before in
-    let a = o .args in
-    let area = o .pre .1 in
-    let p = c .before .before .before .before .before .before .before .before .before .before .push-work in
-    let q = c .before .before .before .before .before .before .push-work2 in
-    let r = c .before .before .push-work3 in (
+    let a = c .before .before .before .before .before .before .before .before .before .before .before .before .before .before .args in (
       omega arith,
       one-covered (a .t) (a .start) (a .length) (a .left) (a .row) (a .covered) (c .before .before .before .before .before .before .before .before .before .before .before .before .if1 .taken)
-          (p .ensures (omega arith) area) (q .ensures (omega arith) (omega arith)) (r .ensures (omega arith) (omega arith)),
+          (c .before .before .before .before .before .before .before .before .before .before .push-work .ensures) (c .before .before .before .before .before .before .push-work2 .ensures) (c .before .before .push-work3 .ensures),
     )
 
 push-work-requires-4 : tie.Need-push-work-requires-4
@@ -50,9 +45,8 @@ same-length-2 c = search needs
 
 returns-2 : tie.Need-returns-2
 returns-2 c =
-    let o = c .before .before .before .before .before .before in
-    let a = o .args in
-    (omega arith, one-plain (a .t) (a .start) (a .length) (a .left) (a .row) (a .covered) (c .before .before .before .before .if1 .left) (c .before .before .push-work4 .ensures (omega arith) (o .pre .1)))
+    let a = c .before .before .before .before .before .before .args in
+    (omega arith, one-plain (a .t) (a .start) (a .length) (a .left) (a .row) (a .covered) (c .before .before .before .before .if1 .left) (c .before .before .push-work4 .ensures))
 
 pub schedule-one-spec : {M : Type 1} → statement M
 schedule-one-spec =

@@ -22,7 +22,7 @@ label-alone-requires c κs = search needs
 returns : tie.Need-returns
 returns c =
     let i = c .before in
-    bare-leaf _ _ _ (i .before .before .form-of-word .ensures) (i .if1 .taken) _ (c .label-alone .ensures)
+    bare-leaf _ _ _ _ (i .before .before .form-of-word .ensures) (i .if1 .taken) _ (c .label-alone .ensures)
 
 refused-at-requires : tie.Need-refused-at-requires
 refused-at-requires c κs = search needs
@@ -30,7 +30,7 @@ refused-at-requires c κs = search needs
 returns-2 : tie.Need-returns-2
 returns-2 c =
     let i = c .before in
-    bare-refused _ _ _ (i .before .before .form-of-word .ensures) (i .if1 .left) _ (c .refused-at .ensures)
+    bare-refused _ _ _ _ (i .before .before .form-of-word .ensures) (i .if1 .left) _ (c .refused-at .ensures)
 
 pub begin-bare-spec : {M : Type 1} → statement M
 begin-bare-spec =

@@ -22,12 +22,12 @@ begin-tagged-requires c κs =
 returns : tie.Need-returns
 returns c =
     let k = c .before in
-    form-refused _ _ _ (k .before .before .next-atom .ensures) _ (k .l .given .1)
+    form-refused _ _ _ _ (k .before .before .next-atom .ensures) _ (k .l .given .1)
 
 returns-2 : tie.Need-returns-2
 returns-2 c =
     let k = c .before .before in
-    form-got _ _ _ (k .before .before .next-atom .ensures) _ (k .l2 .given .1) (c .begin-tagged .result) (c .begin-tagged .ensures)
+    form-got _ _ _ _ (k .before .before .next-atom .ensures) _ (k .l2 .given .1) (c .begin-tagged .result) (c .begin-tagged .ensures)
 
 pub begin-form-spec : {M : Type 1} → statement M
 begin-form-spec =

@@ -1,5 +1,4 @@
 -- `expects::begin_tagged` meets its contract. Assumes nothing.
-use Rattle.terms.specs.Forms.{edition-0-1}
 use Rattle.expects.proofs.Ahead.{natural-inside, name-inside, inside-got}
 use Rattle.expects.proofs.Terms.{name-leaf, numeral-leaf, binder-refused, binder-frame, plain-frame, tag-refused}
 use borrow.Author.Needs.{needs}
@@ -22,7 +21,7 @@ parse-identifier-requires : tie.Need-parse-identifier-requires
 parse-identifier-requires c κs = search needs
 
 close-leaf-requires : tie.Need-close-leaf-requires
-close-leaf-requires c κs = name-inside _ _ (c .parse-identifier .result) edition-0-1 (c .parse-identifier .ensures)
+close-leaf-requires c κs = name-inside _ _ (c .parse-identifier .result) _ (c .parse-identifier .ensures)
 
 parse-natural-requires : tie.Need-parse-natural-requires
 parse-natural-requires c κs = search needs
@@ -43,7 +42,7 @@ label-with-requires : tie.Need-label-with-requires
 label-with-requires c κs =
     let k = c .before in
     let x = k .before .before .parse-identifier2 in
-    inside-got _ _ _ (name-inside _ _ (x .result) edition-0-1 (x .ensures)) (k .x2 .given .1) .order
+    inside-got _ _ _ (name-inside _ _ (x .result) _ (x .ensures)) (k .x2 .given .1) .order
 
 label-alone-requires : tie.Need-label-alone-requires
 label-alone-requires c κs = search needs
@@ -55,14 +54,14 @@ returns : tie.Need-returns
 returns c =
     let x = c .before in
     let m = x .before in
-    name-leaf _ _ _ _ (m .before .form-of-word .ensures) (x .parse-identifier .result) (m .match .keys1) (x .parse-identifier .ensures) (c .close-leaf .result)
+    name-leaf _ _ _ _ _ (m .before .form-of-word .ensures) (x .parse-identifier .result) (m .match .keys1) (x .parse-identifier .ensures) (c .close-leaf .result)
     (c .close-leaf .ensures)
 
 returns-2 : tie.Need-returns-2
 returns-2 c =
     let x = c .before in
     let m = x .before in
-    numeral-leaf _ _ _ _ (m .before .form-of-word .ensures) (x .parse-natural .result) (m .match .keys2) (x .parse-natural .ensures) (c .close-leaf2 .result)
+    numeral-leaf _ _ _ _ _ (m .before .form-of-word .ensures) (x .parse-natural .result) (m .match .keys2) (x .parse-natural .ensures) (c .close-leaf2 .result)
     (c .close-leaf2 .ensures)
 
 returns-3 : tie.Need-returns-3
@@ -70,25 +69,25 @@ returns-3 c =
     let k = c .before in
     let x = k .before .before in
     let m = x .before in
-    binder-refused _ _ _ _ (m .before .form-of-word .ensures) _ (m .match .keys3) (x .parse-identifier2 .ensures) _ (k .x .given .1)
+    binder-refused _ _ _ _ _ (m .before .form-of-word .ensures) _ (m .match .keys3) (x .parse-identifier2 .ensures) _ (k .x .given .1)
 
 returns-4 : tie.Need-returns-4
 returns-4 c =
     let k = c .before .before in
     let x = k .before .before in
     let m = x .before in
-    binder-frame _ _ _ _ (m .before .form-of-word .ensures) _ (m .match .keys3) (x .parse-identifier2 .ensures) _ (k .x2 .given .1) _ (c .label-with .ensures)
+    binder-frame _ _ _ _ _ (m .before .form-of-word .ensures) _ (m .match .keys3) (x .parse-identifier2 .ensures) _ (k .x2 .given .1) _ (c .label-with .ensures)
 
 returns-5 : tie.Need-returns-5
 returns-5 c =
     let m = c .before in
-    plain-frame _ _ _ _ (m .before .form-of-word .ensures) (m .match .keys4) _ (c .label-alone .ensures)
+    plain-frame _ _ _ _ _ (m .before .form-of-word .ensures) (m .match .keys4) _ (c .label-alone .ensures)
 
 returns-6 : tie.Need-returns-6
 returns-6 c =
     let m = c .before in
     let n = m .match .rest in
-    tag-refused _ _ _ _ (m .before .form-of-word .ensures) (n .0 .0 .0 .1) (n .0 .0 .1) (n .0 .1) (n .1) _ (c .refused-at .ensures)
+    tag-refused _ _ _ _ _ (m .before .form-of-word .ensures) (n .0 .0 .0 .1) (n .0 .0 .1) (n .0 .1) (n .1) _ (c .refused-at .ensures)
 
 pub begin-tagged-spec : {M : Type 1} → statement M
 begin-tagged-spec =

@@ -41,26 +41,26 @@ refused-at-requires c κs = search needs
 returns : tie.Need-returns
 returns c =
     let k = c .before in
-    term-refused _ _ _ (k .before .before .next-token .ensures) _ (k .l .given .1)
+    term-refused _ _ _ _ (k .before .before .next-token .ensures) _ (k .l .given .1)
 
 returns-2 : tie.Need-returns-2
 returns-2 c =
     let o = c .before in
     let k = o .before .before .before in
-    term-on _ _ _ (k .before .before .next-token .ensures) _ (k .l2 .given .1) TokenKind.LParen (o .enum-told .given .1)
+    term-on _ _ _ _ (k .before .before .next-token .ensures) _ (k .l2 .given .1) TokenKind.LParen (o .enum-told .given .1)
     (λ q. let z : _≡_ {A = ℕ} 0 1 = cc in omega arith) (c .begin-form .result) (c .begin-form .ensures)
 
 returns-3 : tie.Need-returns-3
 returns-3 c =
     let o = c .before in
     let k = o .before .before .before in
-    term-on _ _ _ (k .before .before .next-token .ensures) _ (k .l2 .given .1) TokenKind.Atom (o .enum-told2 .given .1)
+    term-on _ _ _ _ (k .before .before .next-token .ensures) _ (k .l2 .given .1) TokenKind.Atom (o .enum-told2 .given .1)
     (λ q. let z : _≡_ {A = ℕ} 0 1 = cc in omega arith) (c .begin-bare .result) (c .begin-bare .ensures)
 
 returns-4 : tie.Need-returns-4
 returns-4 c =
     let k = c .before .before .before in
-    term-not _ _ _ (k .before .before .next-token .ensures) _ (k .l2 .given .1)
+    term-not _ _ _ _ (k .before .before .next-token .ensures) _ (k .l2 .given .1)
     (λ q. miss (1 ∷ 3 ∷ []) 0 tt (rw q at (c .before .match2 .keys3)))
     (λ q. miss (1 ∷ 3 ∷ []) 2 tt (rw q at (c .before .match2 .keys3))) _ (c .refused-at .ensures)
 

@@ -1,39 +1,14 @@
 -- `expects::form_of_word` meets its contract. Assumes nothing.
-use mathlib.Core.Path.{_∙_}
-use Rattle.expects.proofs.Indices.{index-low, form-by-index}
+use Rattle.expects.proofs.Formats.{word-forms}
 use borrow.Author.Needs.{needs}
 use Rattle.expects.proofs.form_of_word.Statement.{statement}
 use Rattle.expects.proofs.form_of_word.Tie as tie
 
-word-index-requires : tie.Need-word-index-requires
-word-index-requires c κs = search needs
-
-cast-k : tie.Need-cast-k
-cast-k c = search needs
-
-kind-at-requires : tie.Need-kind-at-requires
-kind-at-requires c κs = index-low _ _ (c .word-index .ensures)
-
-shape-at-requires : tie.Need-shape-at-requires
-shape-at-requires c κs = index-low _ _ (c .before .word-index .ensures)
-
-arity-at-requires : tie.Need-arity-at-requires
-arity-at-requires c κs = index-low _ _ (c .before .before .word-index .ensures)
+surface-form-requires : tie.Need-surface-form-requires
+surface-form-requires c κs = search needs
 
 returns : tie.Need-returns
-returns c =
-    let a = c .before .before .kind-at .ensures in
-    let b = c .before .shape-at .ensures in
-    let d = c .arity-at .ensures in
-    (λ i. record { kind = a i; shape = b i; arity = d i }) ∙ form-by-index _ _ (c .before .before .before .word-index .ensures)
+returns c = word-forms (c .before .before .args .format) _ _ (c .surface-form .ensures)
 
 pub form-of-word-spec : {M : Type 1} → statement M
-form-of-word-spec =
-    tie.close
-    (tie.spec
-    word-index-requires
-    cast-k
-    kind-at-requires
-    shape-at-requires
-    arity-at-requires
-    returns)
+form-of-word-spec = tie.close (tie.spec surface-form-requires returns)

@@ -56,20 +56,20 @@ refused-at-requires-2 c κs = search needs
 returns : tie.Need-returns
 returns c =
     let k = c .before in
-    name-refused _ _ _ (k .before .before .next-atom .ensures) _ (k .l .given .1)
+    name-refused _ _ _ (k .before .before .next-atom .ensures) _ (k .l .given .1) _
 
 returns-2 : tie.Need-returns-2
 returns-2 c =
     let g = c .before .before in
     let k = g .before .before .before in
-    name-tested _ _ _ (k .before .before .next-atom .ensures) _ (k .l2 .given .1) _ (sym (g .name-test .ensures) ∙ c .enum-told .given .1)
+    name-tested _ _ _ (k .before .before .next-atom .ensures) _ (k .l2 .given .1) _ _ (sym (g .name-test .ensures) ∙ c .enum-told .given .1)
 
 returns-3 : tie.Need-returns-3
 returns-3 c =
     λ n.
     let g = c .before .before .before in
     let k = g .before .before .before in
-    name-tested _ _ _ (k .before .before .next-atom .ensures) _ (k .l2 .given .1) _ (sym (g .name-test .ensures) ∙ c .before .enum-told2 .given .1) n
+    name-tested _ _ _ (k .before .before .next-atom .ensures) _ (k .l2 .given .1) _ _ (sym (g .name-test .ensures) ∙ c .before .enum-told2 .given .1) n
     ∙ ap refused (sym (c .refused-at .ensures))
 
 returns-4 : tie.Need-returns-4
@@ -77,7 +77,7 @@ returns-4 c =
     λ n.
     let g = c .before .before .before in
     let k = g .before .before .before in
-    name-tested _ _ _ (k .before .before .next-atom .ensures) _ (k .l2 .given .1) _ (sym (g .name-test .ensures) ∙ c .before .enum-told3 .given .1) n
+    name-tested _ _ _ (k .before .before .next-atom .ensures) _ (k .l2 .given .1) _ _ (sym (g .name-test .ensures) ∙ c .before .enum-told3 .given .1) n
     ∙ ap refused (sym (c .refused-at2 .ensures))
 
 pub parse-identifier-spec : {M : Type 1} → statement M

@@ -36,7 +36,7 @@ returns c =
     let a = c .before .before .before .before .before .before .before .before .before .before .before .before .before .before .before .before .before .before .before .before .before .before .before .before .before .args in
     let k = c .before .before .before .before .before .before .before .before .before .before .before .before .before .before .load in
     let p = c .before .before .put-text in
-    let e = ap (λ (o : Outcome). text-of (a .s .now) (o .answer) (o .core) (o .declarations)) (k .ensures) in
+    let e = ap (λ (o : Outcome). text-of (a .s .now) (o .answer) (o .tables .core) (o .tables .declarations)) (k .ensures) in
     record {
       loads = k .ensures;
       content = p .ensures .0 ∙ ap (with-text (a .text .now)) e;

@@ -1,8 +1,9 @@
--- `listing::print_listing` is safe: what is written is within the text's buffer, by the test before it. Assumes nothing.
+-- `listing::print_listing` is safe: what is written is within the text's buffer, since every text fits it. Assumes nothing.
 use mathlib.Core.Path.{sym}
 use native.Mathlib.Omega.{arith}
 use lib.Seq.{length-take-le}
 use borrow.Author.Needs.{needs}
+use Rattle.listing.proofs.Fits.{within-buffer}
 use Rattle.listing.proofs.print_listing.Statement.{statement}
 use Rattle.listing.proofs.print_listing.Tie as tie
 
@@ -13,12 +14,12 @@ list-requires : tie.Need-list-requires
 list-requires c κs = search needs
 
 array-share-prefix-text : tie.Need-array-share-prefix-text
-array-share-prefix-text c = search needs
+array-share-prefix-text c = let k = c .before .list in omega (arith, k .kept .1 .0, within-buffer _ _ _ _ (k .ensures))
 
 slice-aggregate-write-output : tie.Need-slice-aggregate-write-output
 slice-aggregate-write-output c =
-    let k = c .before .before .before .list in
-    sym (length-take-le (k .result) (k .last .1 .0) (omega (arith, k .kept .1 .0)))
+    let k = c .before .before .list in
+    sym (length-take-le (k .result) (k .last .1 .0) (omega (arith, k .kept .1 .0, within-buffer _ _ _ _ (k .ensures))))
 
 write-output-requires : tie.Need-write-output-requires
 write-output-requires c κs = search needs
@@ -35,9 +36,6 @@ returns c = search needs
 returns-2 : tie.Need-returns-2
 returns-2 c = search needs
 
-returns-3 : tie.Need-returns-3
-returns-3 c = search needs
-
 pub print-listing-spec : {M : Type 1} → statement M
 print-listing-spec =
     tie.close
@@ -50,5 +48,4 @@ print-listing-spec =
     slice-aggregate-fail
     fail-requires
     returns
-    returns-2
-    returns-3)
+    returns-2)

@@ -1,5 +1,5 @@
 -- `parser::push_term` meets its contract. Assumes nothing.
-use mathlib.Core.Path.{sym, _∙_, ap}
+use mathlib.Core.Path.{_∙_, ap}
 use Rattle.parser.specs.declared.Step.{Step}
 use Rattle.parser.proofs.States.{pushed-yes, pushed-no}
 use borrow.Author.Needs.{needs}
@@ -9,40 +9,30 @@ use Rattle.parser.proofs.push_term.Tie as tie
 store-row-requires : tie.Need-store-row-requires
 store-row-requires c κs = search needs
 
-add-t9 : tie.Need-add-t9
-add-t9 c = search needs
+add-t11 : tie.Need-add-t11
+add-t11 c = search needs
 
-cast-t10 : tie.Need-cast-t10
-cast-t10 c = search needs
+cast-t12 : tie.Need-cast-t12
+cast-t12 c = search needs
 
 same-length : tie.Need-same-length
 same-length c = search needs
 
 returns : tie.Need-returns
 returns c =
-    let k = c .before .before .before .store-row in
-    (pushed-yes _ _ _ _ (sym (k .ensures .0) ∙ c .if1 .taken), k .ensures .1)
+    let k = c .before .before .store-row in
+    let y = pushed-yes _ _ _ _ _ _ (c .before .before .before .before .if1 .taken) in
+    (y .0, k .ensures .1 ∙ y .1)
 
-refusal-requires : tie.Need-refusal-requires
-refusal-requires c κs = search needs
-
-same-length-2 : tie.Need-same-length-2
-same-length-2 c = search needs
+refused-nowhere-requires : tie.Need-refused-nowhere-requires
+refused-nowhere-requires c κs = search needs
 
 returns-2 : tie.Need-returns-2
 returns-2 c =
-    let k = c .before .before .before .before .store-row in
-    (ap Step.Refused (c .refusal .ensures) ∙ pushed-no _ _ _ _ (sym (k .ensures .0) ∙ c .before .if1 .left), k .ensures .1)
+    let y = pushed-no _ _ _ _ _ _ (c .before .if1 .left) in
+    (ap Step.Refused (c .refused-nowhere .ensures) ∙ y .0, y .1)
 
 pub push-term-spec : {M : Type 1} → statement M
 push-term-spec =
     tie.close
-    (tie.spec
-    store-row-requires
-    add-t9
-    cast-t10
-    same-length
-    returns
-    refusal-requires
-    same-length-2
-    returns-2)
+    (tie.spec store-row-requires add-t11 cast-t12 same-length returns refused-nowhere-requires returns-2)

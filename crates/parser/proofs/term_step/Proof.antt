@@ -1,7 +1,8 @@
 -- `parser::term_step` meets its contract. Assumes nothing.
 use mathlib.Core.Path.{sym, _∙_, ap}
-use Rattle.rows.specs.Places.{stored-at}
 use Rattle.parser.specs.TermRows.{refused}
+use Rattle.parser.specs.Machine.{pushed-row}
+use Rattle.parser.proofs.Readers.{surface-sound}
 use Rattle.parser.proofs.Steps.{refused-step, leaf-step, open-step, deep-step}
 use borrow.Author.Needs.{needs}
 use Rattle.parser.proofs.term_step.Statement.{statement}
@@ -28,8 +29,8 @@ enum-known-begun-3 c = search needs
 open-frame-requires : tie.Need-open-frame-requires
 open-frame-requires c κs = search needs
 
-add-t23 : tie.Need-add-t23
-add-t23 c = search needs
+add-t25 : tie.Need-add-t25
+add-t25 c = search needs
 
 same-length : tie.Need-same-length
 same-length c = search needs
@@ -38,16 +39,16 @@ returns : tie.Need-returns
 returns c =
     let o = c .before .before .before .before .before .before .before .before .before .before .before .before in
     let k = c .before .before .open-frame in
-    open-step (o .args .s .now) (o .args .table .now) (o .args .work .now) (o .args .st) (o .pre .0) _ (o .pre .1) (c .before .before .before .before .before .before .before .before .begin-term .ensures) _ _ _ _
+    open-step (o .args .s .now) _ (surface-sound (o .args .format) (o .args .s .now) (o .args .limit)) (o .args .table .now) (o .args .work .now) (o .args .st) (o .pre .0) _ (o .pre .1) (c .before .before .before .before .before .before .before .before .begin-term .ensures (o .pre .0 .source)) _ _ _ _
     (c .before .before .before .before .before .before .begun3 .given .1) (c .before .before .before .before .if1 .taken) (k .ensures) (k .kept .0)
 
-refusal-requires : tie.Need-refusal-requires
-refusal-requires c κs = search needs
+refused-nowhere-requires : tie.Need-refused-nowhere-requires
+refused-nowhere-requires c κs = search needs
 
 returns-2 : tie.Need-returns-2
 returns-2 c =
     let o = c .before .before .before .before .before .before .before in
-    refused-step (o .args .s .now) (o .args .table .now) (o .args .work .now) (o .args .st) (o .pre .0) _ (o .pre .1) (c .before .before .before .begin-term .ensures) _ (c .before .begun .given .1)
+    refused-step (o .args .s .now) _ (surface-sound (o .args .format) (o .args .s .now) (o .args .limit)) (o .args .table .now) (o .args .work .now) (o .args .st) (o .pre .0) _ (o .pre .1) (c .before .before .before .begin-term .ensures (o .pre .0 .source)) _ (c .before .begun .given .1)
 
 same-length-2 : tie.Need-same-length-2
 same-length-2 c = search needs
@@ -56,14 +57,14 @@ returns-3 : tie.Need-returns-3
 returns-3 c =
     let o = c .before .before .before .before .before .before .before .before .before .before .before .before in
     let k = c .before .before .push-term in
-    leaf-step (o .args .s .now) (o .args .table .now) (o .args .work .now) (o .args .st) (o .pre .0) _ (o .pre .1) (c .before .before .before .before .before .before .before .before .begin-term .ensures) _ _ _ _
-    (c .before .before .before .before .before .before .begun2 .given .1) (k .ensures .0) (k .ensures .1 ∙ ap (stored-at 8 (o .args .table .now) (o .args .st .rows)) (c .before .before .before .before .surface-row .ensures))
+    leaf-step (o .args .s .now) _ (surface-sound (o .args .format) (o .args .s .now) (o .args .limit)) (o .args .table .now) (o .args .work .now) (o .args .st) (o .pre .0) _ (o .pre .1) (c .before .before .before .before .before .before .before .before .begin-term .ensures (o .pre .0 .source)) _ _ _ _
+    (c .before .before .before .before .before .before .begun2 .given .1) (k .ensures .0) (k .ensures .1 ∙ ap (pushed-row (o .args .limit) (o .args .table .now) (o .args .st .rows)) (c .before .before .before .before .surface-row .ensures))
 
 returns-4 : tie.Need-returns-4
 returns-4 c =
     let o = c .before .before .before .before .before .before .before .before .before in
-    deep-step (o .args .s .now) (o .args .table .now) (o .args .work .now) (o .args .st) (o .pre .0) _ (o .pre .1) (c .before .before .before .before .before .begin-term .ensures) _ _ _
-    (c .before .before .before .begun3 .given .1) (c .before .if1 .left) ∙ ap refused (sym (c .refusal .ensures))
+    deep-step (o .args .s .now) _ (surface-sound (o .args .format) (o .args .s .now) (o .args .limit)) (o .args .table .now) (o .args .work .now) (o .args .st) (o .pre .0) _ (o .pre .1) (c .before .before .before .before .before .begin-term .ensures (o .pre .0 .source)) _ _ _
+    (c .before .before .before .begun3 .given .1) (c .before .if1 .left) ∙ ap refused (sym (c .refused-nowhere .ensures))
 
 pub term-step-spec : {M : Type 1} → statement M
 term-step-spec =
@@ -76,10 +77,10 @@ term-step-spec =
     push-term-requires
     enum-known-begun-3
     open-frame-requires
-    add-t23
+    add-t25
     same-length
     returns
-    refusal-requires
+    refused-nowhere-requires
     returns-2
     same-length-2
     returns-3

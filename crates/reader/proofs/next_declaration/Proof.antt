@@ -1,9 +1,8 @@
 -- `reader::next_declaration` meets its contract. Assumes nothing.
 use mathlib.Core.List.{[], _∷_}
-use Prim.Native.Nat.{_-_, _/_}
+use Prim.Native.Nat.{_-_}
 use native.Mathlib.Omega.{arith}
 use types.Run.{miss}
-use lib.ListN.{length}
 use Rattle.reader.proofs.Steps.{next-refused, next-full, next-other, ends-here, declaration-stops, went}
 use borrow.Author.Needs.{needs}
 use Rattle.reader.proofs.next_declaration.Statement.{statement}
@@ -24,17 +23,17 @@ enum-told c = search needs
 enum-told-2 : tie.Need-enum-told-2
 enum-told-2 c = search needs
 
-full-requires : tie.Need-full-requires
-full-requires c κs = search needs
+refused-nowhere-requires : tie.Need-refused-nowhere-requires
+refused-nowhere-requires c κs = search needs
 
 returns : tie.Need-returns
 returns c =
     let f = c .before in
-    let x = f .before .before .before .before in
+    let x = f .before .before .before .before .before in
     let i = x .before .before in
     let a = i .before .before .before .before .before .args in (
-      λ w few. next-full (a .s .now) (length (a .table .now) / 8) (a .at) (a .rows) (length (a .list .now) / 5 - a .k) (i .next-token .result) (i .next-token .ensures)
-          (x .l2 .given .0 .0) (x .l2 .given .1) (f .before .enum-told2 .given .1) (omega arith) _ (c .full .ensures),
+      λ w few. next-full (a .format) (a .s .now) (a .limits .rows) (a .at) (a .rows) (a .limits .declarations - a .k) (i .next-token .result) (i .next-token .ensures)
+          (x .l2 .given .0 .0) (x .l2 .given .1) (f .before .before .enum-told2 .given .1) (omega arith) _ (c .refused-nowhere .ensures),
       tt,
     )
 
@@ -47,22 +46,22 @@ enum-known-d c = search needs
 enum-known-d-2 : tie.Need-enum-known-d-2
 enum-known-d-2 c = search needs
 
-malformed-requires : tie.Need-malformed-requires
-malformed-requires c κs = search needs
+refused-at-requires : tie.Need-refused-at-requires
+refused-at-requires c κs = search needs
 
 returns-2 : tie.Need-returns-2
 returns-2 c =
     let x = c .before in
     let i = x .before .before in
     let a = i .before .before .before .before .before .args in
-    (λ w few. next-refused (a .s .now) (length (a .table .now) / 8) (a .at) (a .rows) (length (a .list .now) / 5 - a .k) (i .next-token .result) (i .next-token .ensures) _ (x .l .given .1), tt)
+    (λ w few. next-refused (a .format) (a .s .now) (a .limits .rows) (a .at) (a .rows) (a .limits .declarations - a .k) (i .next-token .result) (i .next-token .ensures) _ (x .l .given .1), tt)
 
 returns-3 : tie.Need-returns-3
 returns-3 c =
     let x = c .before .before .before in
     let i = x .before .before in
     let a = i .before .before .before .before .before .args in (
-      λ w few. ends-here (a .s .now) (a .table .now) (a .list .now) (a .at) (a .rows) (a .k) (i .next-token .result) (i .next-token .ensures)
+      λ w few. ends-here (a .format) (a .limits) (a .s .now) (a .table .now) (a .list .now) (a .at) (a .rows) (a .k) (i .next-token .result) (i .next-token .ensures)
           (x .l2 .given .0 .0) (x .l2 .given .1) (c .enum-told .given .1),
       tt,
     )
@@ -81,11 +80,11 @@ returns-4 c =
     let y = c .before in
     let d = y .before .before .before .before .before .before .before .before in
     let f = d .before .before .before .before in
-    let x = f .before .before .before .before in
+    let x = f .before .before .before .before .before in
     let i = x .before .before in
     let a = i .before .before .before .before .before .args in (
-      λ w few. declaration-stops (a .s .now) (a .table .now) (a .list .now) (a .at) (a .rows) (a .k) (a .work .now) (d .read-declaration .last .1 .1 .1 .0) w (omega arith)
-          (i .next-token .result) (i .next-token .ensures) (x .l2 .given .0 .0) (x .l2 .given .1) (f .before .enum-told2 .given .1)
+      λ w few. declaration-stops (a .format) (a .limits) (a .s .now) (a .table .now) (a .list .now) (a .at) (a .rows) (a .k) (a .work .now) (d .read-declaration .last .1 .1 .1 .0) w (omega arith)
+          (i .next-token .result) (i .next-token .ensures) (x .l2 .given .0 .0) (x .l2 .given .1) (f .before .before .enum-told2 .given .1)
           (d .read-declaration .result) (d .read-declaration .last .1 .0) (d .read-declaration .last .1 .1 .0)
           (d .read-declaration .kept .1 .0) (d .read-declaration .kept .1 .1 .0) (d .read-declaration .kept .1 .1 .1 .0)
           (d .read-declaration .ensures) _ (y .d .given .1),
@@ -106,11 +105,11 @@ returns-5 c =
     let y = c .before in
     let d = y .before .before .before .before .before .before .before .before in
     let f = d .before .before .before .before in
-    let x = f .before .before .before .before in
+    let x = f .before .before .before .before .before in
     let i = x .before .before in
     let a = i .before .before .before .before .before .args in (
-      λ w few. went (a .s .now) (a .table .now) (a .list .now) (a .at) (a .rows) (a .k) (a .work .now) (d .read-declaration .last .1 .1 .1 .0) w (omega arith)
-          (i .next-token .result) (i .next-token .ensures) (x .l2 .given .0 .0) (x .l2 .given .1) (f .before .enum-told2 .given .1)
+      λ w few. went (a .format) (a .limits) (a .s .now) (a .table .now) (a .list .now) (a .at) (a .rows) (a .k) (a .work .now) (d .read-declaration .last .1 .1 .1 .0) w (omega arith)
+          (i .next-token .result) (i .next-token .ensures) (x .l2 .given .0 .0) (x .l2 .given .1) (f .before .before .enum-told2 .given .1)
           (d .read-declaration .result) (d .read-declaration .last .1 .0) (d .read-declaration .last .1 .1 .0)
           (d .read-declaration .kept .1 .0) (d .read-declaration .kept .1 .1 .0) (d .read-declaration .kept .1 .1 .1 .0)
           (d .read-declaration .ensures) _ _ (y .d2 .given .1),
@@ -122,10 +121,10 @@ returns-6 c =
     let x = c .before .before .before in
     let i = x .before .before in
     let a = i .before .before .before .before .before .args in (
-      λ w few. next-other (a .s .now) (length (a .table .now) / 8) (a .at) (a .rows) (length (a .list .now) / 5 - a .k) (i .next-token .result) (i .next-token .ensures)
+      λ w few. next-other (a .format) (a .s .now) (a .limits .rows) (a .at) (a .rows) (a .limits .declarations - a .k) (i .next-token .result) (i .next-token .ensures)
           (x .l2 .given .0 .0) (x .l2 .given .1)
           (λ q. miss (1 ∷ 2 ∷ []) 0 tt (rw q at (c .before .match2 .keys3)))
-          (λ q. miss (1 ∷ 2 ∷ []) 3 tt (rw q at (c .before .match2 .keys3))) _ (c .malformed .ensures),
+          (λ q. miss (1 ∷ 2 ∷ []) 3 tt (rw q at (c .before .match2 .keys3))) _ (c .refused-at .ensures),
       tt,
     )
 
@@ -138,12 +137,12 @@ next-declaration-spec =
     enum-known-l-2
     enum-told
     enum-told-2
-    full-requires
+    refused-nowhere-requires
     returns
     read-declaration-requires
     enum-known-d
     enum-known-d-2
-    malformed-requires
+    refused-at-requires
     returns-2
     returns-3
     same-length

@@ -10,7 +10,7 @@ returns : tie.Need-returns
 returns c =
     let a = c .before .before .before .before .args in
     λ i j e.
-    no-body (a .s .now) (a .table .now) (a .at) (a .rows) _ _ j (omega arith) refl refl
+    no-body (a .format) (a .limits .rows) (a .s .now) (a .table .now) (a .at) (a .rows) (i .stored) _ _ j (omega arith) refl refl
 
 read-term-requires : tie.Need-read-term-requires
 read-term-requires c κs = search needs
@@ -27,8 +27,8 @@ returns-2 c =
     let f = k .before .before .before in
     let a = f .before .before .before .before .args in
     λ i j e.
-    some-body (a .s .now) (a .table .now) (a .at) (a .rows) (k .read-term .result) (k .read-term .last .1 .0) j (λ z. f .if1 .left (omega arith))
-    (k .read-term .ensures (term-inside (a .s .now) (a .table .now) (a .work .now) (a .at) (a .rows) i))
+    some-body (a .format) (a .limits .rows) (a .s .now) (a .table .now) (a .at) (a .rows) (i .stored) (k .read-term .result) (k .read-term .last .1 .0) j (λ z. f .if1 .left (omega arith))
+    (k .read-term .ensures (term-inside (a .limits .rows) (a .s .now) (a .work .now) (a .at) (a .rows) i))
 
 pub read-body-spec : {M : Type 1} → statement M
 read-body-spec =

@@ -37,8 +37,8 @@ part-declaration-kind-end c =
 declaration-kind-requires : tie.Need-declaration-kind-requires
 declaration-kind-requires c κs = search needs
 
-malformed-requires : tie.Need-malformed-requires
-malformed-requires c κs = search needs
+refused-at-requires : tie.Need-refused-at-requires
+refused-at-requires c κs = search needs
 
 returns : tie.Need-returns
 returns c =
@@ -47,9 +47,9 @@ returns c =
     let i = x .before .before in
     let a = i .before .before .before .before .before .args in
     λ w room.
-    stops _ _ _ _ _ _ _ _
-    (other-word (a .s .now) _ (a .at) (a .rows) (i .next-atom .result) (i .next-atom .ensures) (x .l2 .given .0 .0) (x .l2 .given .1)
-    (d .declaration-kind .result) (d .declaration-kind .ensures) (c .before .if1 .taken) _ (c .malformed .ensures))
+    stops _ _ _ _ _ _ _ _ _
+    (other-word (a .format) (a .s .now) _ (a .at) (a .rows) (i .next-atom .result) (i .next-atom .ensures) (x .l2 .given .0 .0) (x .l2 .given .1)
+    (d .declaration-kind .result) (d .declaration-kind .ensures) (c .before .if1 .taken) _ (c .refused-at .ensures))
 
 read-named-requires : tie.Need-read-named-requires
 read-named-requires c κs = search needs
@@ -60,7 +60,7 @@ returns-2 c =
     let i = x .before .before in
     let a = i .before .before .before .before .before .args in
     λ w room.
-    stops _ _ _ _ _ _ _ _ (word-refused (a .s .now) _ (a .at) (a .rows) (i .next-atom .result) (i .next-atom .ensures) _ (x .l .given .1))
+    stops _ _ _ _ _ _ _ _ _ (word-refused (a .format) (a .s .now) _ (a .at) (a .rows) (i .next-atom .result) (i .next-atom .ensures) _ (x .l .given .1))
 
 same-length : tie.Need-same-length
 same-length c = search needs
@@ -80,11 +80,11 @@ returns-3 c =
     let i = x .before .before in
     let a = i .before .before .before .before .before .args in
     λ w room.
-    word-got (a .s .now) _ (a .at) (a .rows) (i .next-atom .result) (i .next-atom .ensures) (x .l2 .given .0 .0) (x .l2 .given .1)
-    (d .declaration-kind .result) (d .declaration-kind .ensures) (f .if1 .left) (a .k) (a .table .now) (a .list .now) (g .read-named .result)
+    word-got (a .format) (a .s .now) _ (a .at) (a .rows) (i .next-atom .result) (i .next-atom .ensures) (x .l2 .given .0 .0) (x .l2 .given .1)
+    (d .declaration-kind .result) (d .declaration-kind .ensures) (f .if1 .left) (a .limits) (a .k) (a .table .now) (a .list .now) (g .read-named .result)
     (g .read-named .last .1 .0) (g .read-named .last .1 .1 .0)
     (g .read-named .ensures
-    (behind-word (a .s .now) (a .table .now) (a .work .now) (a .at) (a .rows) (i .next-atom .result) (i .next-atom .ensures) (x .l2 .given .0 .0)
+    (behind-word (a .limits .rows) (a .s .now) (a .work .now) (a .at) (a .rows) (i .next-atom .result) (i .next-atom .ensures) (x .l2 .given .0 .0)
     (x .l2 .given .1) w) room)
 
 pub read-declaration-spec : {M : Type 1} → statement M
@@ -98,7 +98,7 @@ read-declaration-spec =
     part-declaration-kind-start
     part-declaration-kind-end
     declaration-kind-requires
-    malformed-requires
+    refused-at-requires
     returns
     read-named-requires
     returns-2

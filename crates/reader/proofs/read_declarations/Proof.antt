@@ -1,23 +1,22 @@
 -- `reader::read_declarations` meets its contract. The loop ends since each declaration that is read takes a record. Assumes nothing.
 use mathlib.Core.Path.{_∙_}
-use Prim.Native.Nat.{_-_, _/_}
+use Prim.Native.Nat.{_-_}
 use native.Mathlib.Omega.{arith}
-use lib.ListN.{length}
 use borrow.Author.Needs.{needs}
 use Rattle.reader.proofs.Loop.{Reading, start, roomy, next, ended, stopped}
 use Rattle.reader.proofs.read_declarations.Statement.{statement}
 use Rattle.reader.proofs.read_declarations.Tie as tie
 
 abbrev Inv-loop : tie.InvT-loop
-Inv-loop s table₀ list₀ work₀ from at₀ rows₀ k₀ table list work at rows k = Reading s table₀ list₀ work₀ from table list work at rows k
+Inv-loop s table₀ list₀ work₀ from limits format at₀ rows₀ k₀ table list work at rows k = Reading format limits s table₀ list₀ work₀ from table list work at rows k
 
 abbrev μ-loop : tie.MeasureT-loop
-μ-loop s table₀ list₀ work₀ from at₀ rows₀ k₀ table list work at rows k = length list₀ / 5 - k
+μ-loop s table₀ list₀ work₀ from limits format at₀ rows₀ k₀ table list work at rows k = limits .declarations - k
 
 loop-holds : tie.Need-loop-holds Inv-loop μ-loop
 loop-holds c =
     let a = c .before .before .before .before .args in
-    start (a .s .now) (a .table .now) (a .list .now) (a .work .now) (a .from)
+    start (a .format) (a .limits) (a .s .now) (a .table .now) (a .list .now) (a .work .now) (a .from)
 
 next-declaration-requires : tie.Need-next-declaration-requires Inv-loop μ-loop
 next-declaration-requires c κs = search needs
@@ -46,7 +45,7 @@ returns c =
     let d = m .next-declaration in
     let l = m .before .before .before .before .loop in
     let a = m .before .before .before .before .before .before .before .before .before .args in
-    stopped (a .s .now) (a .table .now) (a .list .now) (a .work .now) (a .from) (l .table) (l .list) (l .work) (l .at) (l .rows) (l .k) (l .inv)
+    stopped (a .format) (a .limits) (a .s .now) (a .table .now) (a .list .now) (a .work .now) (a .from) (l .table) (l .list) (l .work) (l .at) (l .rows) (l .k) (l .inv)
     (d .result) (d .last .1 .0) (d .last .1 .1 .0) (d .last .1 .1 .1 .0) (d .ensures .0) _ (c .before .step .given .1)
 
 enum-told : tie.Need-enum-told Inv-loop μ-loop
@@ -73,7 +72,7 @@ returns-2 c =
     let d = m .next-declaration in
     let l = m .before .before .before .before .loop in
     let a = m .before .before .before .before .before .before .before .before .before .args in
-    ended (a .s .now) (a .table .now) (a .list .now) (a .work .now) (a .from) (l .table) (l .list) (l .work) (l .at) (l .rows) (l .k) (l .inv)
+    ended (a .format) (a .limits) (a .s .now) (a .table .now) (a .list .now) (a .work .now) (a .from) (l .table) (l .list) (l .work) (l .at) (l .rows) (l .k) (l .inv)
     (d .result) (d .last .1 .0) (d .last .1 .1 .0) (d .last .1 .1 .1 .0) (d .ensures .0) (c .enum-told .given .1)
 
 enum-known-step-2 : tie.Need-enum-known-step-2 Inv-loop μ-loop
@@ -85,7 +84,7 @@ add-k c =
     let d = m .next-declaration in
     let l = m .before .before .before .before .loop in
     let a = m .before .before .before .before .before .before .before .before .before .args in
-    let h = roomy (a .s .now) (a .table .now) (a .list .now) (a .work .now) (a .from) (l .table) (l .list) (l .work) (l .at) (l .rows) (l .k) (l .inv)
+    let h = roomy (a .format) (a .limits) (a .s .now) (a .table .now) (a .list .now) (a .work .now) (a .from) (l .table) (l .list) (l .work) (l .at) (l .rows) (l .k) (l .inv)
     (d .result) (d .last .1 .0) (d .last .1 .1 .0) (d .last .1 .1 .1 .0) (d .ensures .0) (d .ensures .1) _ _ (c .before .step2 .given .1) in
     omega (arith, l .inv .list-long, m .before .before .before .before .before .before .before .before .before .good)
 
@@ -95,7 +94,7 @@ loop-less c =
     let d = m .next-declaration in
     let l = m .before .before .before .before .loop in
     let a = m .before .before .before .before .before .before .before .before .before .args in
-    let h = roomy (a .s .now) (a .table .now) (a .list .now) (a .work .now) (a .from) (l .table) (l .list) (l .work) (l .at) (l .rows) (l .k) (l .inv)
+    let h = roomy (a .format) (a .limits) (a .s .now) (a .table .now) (a .list .now) (a .work .now) (a .from) (l .table) (l .list) (l .work) (l .at) (l .rows) (l .k) (l .inv)
     (d .result) (d .last .1 .0) (d .last .1 .1 .0) (d .last .1 .1 .1 .0) (d .ensures .0) (d .ensures .1) _ _ (c .before .step2 .given .1) in
     omega (arith, l .inv .list-long)
 
@@ -105,7 +104,7 @@ loop-again c =
     let d = m .next-declaration in
     let l = m .before .before .before .before .loop in
     let a = m .before .before .before .before .before .before .before .before .before .args in
-    next (a .s .now) (a .table .now) (a .list .now) (a .work .now) (a .from) (l .table) (l .list) (l .work) (l .at) (l .rows) (l .k) (l .inv)
+    next (a .format) (a .limits) (a .s .now) (a .table .now) (a .list .now) (a .work .now) (a .from) (l .table) (l .list) (l .work) (l .at) (l .rows) (l .k) (l .inv)
     (d .result) (d .last .1 .0) (d .last .1 .1 .0) (d .last .1 .1 .1 .0) (d .ensures .0)
     (d .ensures .1) (d .kept .1 .0) (d .kept .1 .1 .0) (d .kept .1 .1 .1 .0) _ _ (c .before .step2 .given .1)
 

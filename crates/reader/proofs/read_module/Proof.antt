@@ -1,27 +1,17 @@
--- `reader::read_module` meets its contract. Assumes nothing.
-use Rattle.reader.proofs.Modules.{head-refused, head-got}
+-- `reader::read_module` meets its contract: the tables hold what they have places for. Assumes nothing.
+use Prim.Native.Nat.{_/_}
+use native.Mathlib.Omega.{arith}
+use lib.ListN.{length}
+use Rattle.surface.specs.Reader.{start}
+use Rattle.surface.specs.Reading.{read-module}
+use Rattle.reader.specs.declared.Limits.{Limits}
+use Rattle.reader.proofs.Modules.{whole}
 use borrow.Author.Needs.{needs}
 use Rattle.reader.proofs.read_module.Statement.{statement}
 use Rattle.reader.proofs.read_module.Tie as tie
 
-read-head-requires : tie.Need-read-head-requires
-read-head-requires c κs = search needs
-
-enum-known-h : tie.Need-enum-known-h
-enum-known-h c = search needs
-
-enum-known-h-2 : tie.Need-enum-known-h-2
-enum-known-h-2 c = search needs
-
-read-declarations-requires : tie.Need-read-declarations-requires
-read-declarations-requires c κs = search needs
-
-returns : tie.Need-returns
-returns c =
-    let x = c .before in
-    let i = x .before .before in
-    let a = i .before .before .before .before .before .args in
-    λ short wide. head-refused (a .s .now) (a .table .now) (a .list .now) (i .read-head .result) (i .read-head .ensures) _ (x .h .given .1) _ _
+read-within-requires : tie.Need-read-within-requires
+read-within-requires c κs = search needs
 
 same-length : tie.Need-same-length
 same-length c = search needs
@@ -32,26 +22,17 @@ same-length-2 c = search needs
 same-length-3 : tie.Need-same-length-3
 same-length-3 c = search needs
 
-returns-2 : tie.Need-returns-2
-returns-2 c =
-    let d = c .before .before .before .before .before .before in
-    let x = d .before .before .before .before .before in
-    let i = x .before .before in
-    let a = i .before .before .before .before .before .args in
+returns : tie.Need-returns
+returns c =
+    let d = c .before .before .before .before .before .before .read-within in
+    let a = c .before .before .before .before .before .before .before .before .before .before .before .before .before .before .args in
+    let table = a .table .now in
+    let list = a .list .now in
+    let limits : Limits = record { rows = length table / 8; declarations = length list / 5 } in
     λ short wide.
-    head-got (a .s .now) (a .table .now) (a .list .now) (i .read-head .result) (i .read-head .ensures) _ _ (x .h2 .given .1) (a .work .now) short wide
-    (d .read-declarations .result) (d .read-declarations .last .1 .0) (d .read-declarations .last .1 .1 .0) (d .read-declarations .ensures)
+    whole limits (read-module (a .s .now) (limits .rows) (limits .declarations) 512 start) table list (d .result) (d .last .1 .0) (d .last .1 .1 .0)
+    (omega arith) (omega arith) (d .ensures (omega arith) (omega arith))
 
 pub read-module-spec : {M : Type 1} → statement M
 read-module-spec =
-    tie.close
-    (tie.spec
-    read-head-requires
-    enum-known-h
-    enum-known-h-2
-    read-declarations-requires
-    returns
-    same-length
-    same-length-2
-    same-length-3
-    returns-2)
+    tie.close (tie.spec read-within-requires same-length same-length-2 same-length-3 returns)

@@ -36,7 +36,7 @@ declaration-record-requires : tie.Need-declaration-record-requires
 declaration-record-requires c κs =
     let x = c .before .before .before .before .before .before .before .before .before .before .before .before .before .before .before .before .before .before .before .before .before in
     let i = x .before .before in
-    name-order _ _ (i .parse-identifier .result) (i .parse-identifier .ensures) _ (x .l2 .given .1)
+    name-order (i .before .before .before .before .before .args .format) _ _ (i .parse-identifier .result) (i .parse-identifier .ensures) _ (x .l2 .given .1)
 
 finish-declaration-requires : tie.Need-finish-declaration-requires
 finish-declaration-requires c κs = search needs
@@ -47,7 +47,7 @@ returns c =
     let i = x .before .before in
     let a = i .before .before .before .before .before .args in
     λ w room t j is.
-    stops _ _ _ _ _ _ _ _ (name-refused (a .s .now) _ t j (a .at) (a .rows) (i .parse-identifier .result) (i .parse-identifier .ensures) _ (x .l .given .1))
+    stops _ _ _ _ _ _ _ _ _ (name-refused (a .format) (a .s .now) _ t j (a .at) (a .rows) (i .parse-identifier .result) (i .parse-identifier .ensures) _ (x .l .given .1))
 
 same-length : tie.Need-same-length
 same-length c = search needs
@@ -63,7 +63,7 @@ returns-2 c =
     let i = x .before .before in
     let a = i .before .before .before .before .before .args in
     λ w room t j is.
-    type-stops (a .s .now) (a .table .now) (a .list .now) (a .work .now) (a .at) (a .rows) (a .k) t j (a .kind) w room is
+    type-stops (a .format) (a .limits) (a .s .now) (a .table .now) (a .list .now) (a .work .now) (a .at) (a .rows) (a .k) t j (a .kind) w room is
     (i .parse-identifier .result) (i .parse-identifier .ensures) (x .l2 .given .0 .0) (x .l2 .given .1)
     (g .read-term .result) (g .read-term .last .1 .0) (g .read-term .last .1 .1 .0) (g .read-term .kept .1 .0) (g .read-term .kept .1 .1 .0) (g .read-term .ensures)
     _ (y .ty .given .1) _
@@ -84,7 +84,7 @@ returns-3 c =
     let i = x .before .before in
     let a = i .before .before .before .before .before .args in
     λ w room t j is.
-    body-stops (a .s .now) (a .table .now) (a .list .now) (a .work .now) (a .at) (a .rows) (a .k) t j (a .kind) w room is
+    body-stops (a .format) (a .limits) (a .s .now) (a .table .now) (a .list .now) (a .work .now) (a .at) (a .rows) (a .k) t j (a .kind) w room is
     (i .parse-identifier .result) (i .parse-identifier .ensures) (x .l2 .given .0 .0) (x .l2 .given .1)
     (g .read-term .result) (g .read-term .last .1 .0) (g .read-term .last .1 .1 .0) (g .read-term .kept .1 .0) (g .read-term .kept .1 .1 .0) (g .read-term .ensures)
     _ _ _ (y .ty2 .given .1) (f .read-body .result) (f .read-body .last .1 .0) (f .read-body .ensures) _ (z .body .given .1) _
@@ -110,7 +110,7 @@ returns-4 c =
     let i = x .before .before in
     let a = i .before .before .before .before .before .args in
     λ w room t j is.
-    ends (a .s .now) (a .table .now) (a .list .now) (a .work .now) (a .at) (a .rows) (a .k) t j (a .kind) w room is
+    ends (a .format) (a .limits) (a .s .now) (a .table .now) (a .list .now) (a .work .now) (a .at) (a .rows) (a .k) t j (a .kind) w room is
     (i .parse-identifier .result) (i .parse-identifier .ensures) (x .l2 .given .0 .0) (x .l2 .given .1)
     (g .read-term .result) (g .read-term .last .1 .0) (g .read-term .last .1 .1 .0) (g .read-term .kept .1 .0) (g .read-term .kept .1 .1 .0) (g .read-term .ensures)
     _ _ _ (y .ty2 .given .1) (f .read-body .result) (f .read-body .last .1 .0) (f .read-body .ensures)

@@ -47,9 +47,11 @@ use Rattle.records.specs.declared.Declaration.{Declaration}
 use Rattle.records.specs.Records.{words-of}
 use Rattle.record_loader.specs.declared.Question.{Question}
 use Rattle.record_loader.specs.declared.Reply.{Reply}
-use Rattle.record_loader.specs.Recorded.{lengths-with, lengths-of-list, RepliesWithRecords}
-use Rattle.record_list.specs.Left.{Left, used}
-use Rattle.record_list.proofs.Listed.{useds, useds-length, room-useds, list-typed, useds-in, list-share, list-out}
+use Rattle.surface.specs.Tables.{tables as lent}
+use Rattle.record_loader.specs.Recorded.{list-words}
+use Rattle.record_loader.specs.Replies.{Replies}
+use Rattle.record_list.specs.Left.{Left, used, useds}
+use Rattle.record_list.proofs.Listed.{useds-length, room-useds, list-typed, useds-in, list-share, list-out}
 use Rattle.records.proofs.Declaration as T
 use Rattle.records.proofs.Declaration.Laws as T′
 use Rattle.record_loader.proofs.Question as Q
@@ -172,7 +174,7 @@ module _ {M : Type 1} (𝓤 : URA M) (H : Heap 𝓤) (A : Atoms 𝓤) (W : Given
   zd ws = ws .1 .1 .1 .1 .0
 
   abbrev AskSays : Reply → AskLasts → Type 0
-  AskSays r ws = RepliesWithRecords (r₀ .now) question (lengths-of-list (r₁ .now) (r₂ .now) useds (r₃ .now)) (length useds) (r₂ .now) r (ws .1 .1 .0) (ws .1 .1 .1 .0) (zd ws) (ws .1 .1 .1 .1 .1 .0)
+  AskSays r ws = Replies (r₀ .now) question (lent (r₁ .now) (r₂ .now) (list-words useds) (r₃ .now)) r (lent (ws .1 .1 .0) (ws .1 .1 .1 .0) (list-words (zd ws)) (ws .1 .1 .1 .1 .1 .0))
 
   abbrev to-ask : ℕ → GName → ℕ → AskIt 𝓤 H A at-mem run .Ghost
   to-ask ν δ b = ((ask-lfts ν, (q₀, (q₁, (q₂, (fullShare, (q₃, tt))))), tt, ask-args δ b, (vq ∷ [], (s₀ ∷ [], (s₁ ∷ [], (s₂ ∷ [], (sliceVal (b, 0) 256 ∷ [], (s₃ ∷ [], tt))))))), tt)
@@ -204,9 +206,7 @@ module _ {M : Type 1} (𝓤 : URA M) (H : Heap 𝓤) (A : Atoms 𝓤) (W : Given
       nothing ! $ move ! (3 ∷ 0 ∷ []) $ fjoin ! $ move ! (2 ∷ 0 ∷ []) $ fjoin ! $ move ! (1 ∷ 0 ∷ []) $ join ! $ frame ! $ done !
 
   final : (r : Reply) (ws : AskLasts) (z₄ : List ℕ) → AskSays r ws → z₄ ≡ words-of (zd ws) 0 (r₄ .now) → Says r (ws .1 .1 .0) (ws .1 .1 .1 .0) (ws .1 .1 .1 .1 .1 .0) z₄
-  final r ws z₄ e e₄ =
-      let k = subst (λ (m : ℕ). RepliesWithRecords (r₀ .now) question (lengths-with (r₁ .now) (r₂ .now) (m * 5) (r₃ .now)) m (r₂ .now) r (ws .1 .1 .0) (ws .1 .1 .1 .0) (zd ws) (ws .1 .1 .1 .1 .1 .0)) useds-length e in
-      record { replies = k .replies; words-out = e₄ ∙ ap (λ t. words-of t 0 (r₄ .now)) (k .records) }
+  final r ws z₄ e e₄ = record { list = zd ws; replies = e; words-out = e₄ }
 
   module _ (room₀ : Room u8 (length (r₀ .now))) (room₁ : Room u32 (length (r₁ .now))) (room₂ : Room u32 (length (r₂ .now))) (room₃ : Room u32 (length (r₃ .now))) (room₄ : Room u32 (length (r₄ .now))) (is-q : Asks)
       (C : Calls 𝓤 H) (Λ : Loops 𝓤 H) (fm : FmC 𝓤 H (W .laws) C) (known-used : Triple 𝓤 (C #used-record) (UsedRecord 𝓤 H A at-mem run)) (known-ask : Triple 𝓤 (C #ask-it) (AskIt 𝓤 H A at-mem run)) (known-words : Triple 𝓤 (C #write-words) (ToWords 𝓤 H A at-mem run)) where

@@ -47,8 +47,8 @@ use denote.Triple.Clauses.{ensured, lasts}
 use Rattle.record_loader.specs.declared.Question.{Question}
 use Rattle.record_loader.specs.declared.Reply.{Reply}
 use Rattle.record_loader.specs.Replies.{Replies}
-use Rattle.records.specs.Records.{word-limit}
-use Rattle.record_loader.specs.Recorded.{lengths-with, lengths-of-list, front, RepliesWithRecords}
+use Rattle.surface.specs.Tables.{tables as lent}
+use Rattle.record_loader.specs.Recorded.{list-words, front}
 use Rattle.record_loader.proofs.Replying.{replies-left}
 use Rattle.records.specs.declared.Declaration.{Declaration}
 use Rattle.records.proofs.Scratch.{zeros, zeros-length, room-zeros, scratch-typed, zeros-in, scratch-share, scratch-out}
@@ -121,7 +121,7 @@ module _ {M : Type 1} (𝓤 : URA M) (H : Heap 𝓤) (A : Atoms 𝓤) (W : Given
 
   -- what the function says of its result and of the lists that it leaves
   abbrev Says : Reply → List ℕ → List ℕ → List Declaration → List ℕ → Type 0
-  Says r z₁ z₂ z₃ z₄ = RepliesWithRecords (r₀ .now) question (lengths-of-list (r₁ .now) (r₂ .now) (r₃ .now) (r₄ .now)) (length (r₃ .now)) (r₂ .now) r z₁ z₂ z₃ z₄
+  Says r z₁ z₂ z₃ z₄ = Replies (r₀ .now) question (lent (r₁ .now) (r₂ .now) (list-words (r₃ .now)) (r₄ .now)) r (lent z₁ z₂ (list-words z₃) z₄)
 
   exits : (r : Reply) (v : Val) (z₁ : List ℕ) (z₂ : List ℕ) (z₃ : List Declaration) (z₄ : List ℕ) → Says r z₁ z₂ z₃ z₄ → length z₁ ≡ length (r₁ .now) → length z₂ ≡ length (r₂ .now) → length z₃ ≡ length (r₃ .now) → length z₄ ≡ length (r₄ .now) → Asks
       → ent 𝓤 (⋆ 𝓤 H A (‵ (flft κ₀ q₀) ∷ ‵ (flft κ₁ q₁) ∷ ‵ (flft κ₂ q₂) ∷ ‵ (flft κ₃ q₃) ∷ ‵ (flft κ₄ q₄) ∷ ‵ (ShrSlice (named 0) κ₀ u8 .own r₀ (s₀ ∷ []))
@@ -150,7 +150,7 @@ module _ {M : Type 1} (𝓤 : URA M) (H : Heap 𝓤) (A : Atoms 𝓤) (W : Given
   zw ws = ws .1 .1 .1 .1 .0
 
   abbrev CoreSays : Reply → CoreLasts → Type 0
-  CoreSays r ws = Replies (r₀ .now) question (lengths-with (r₁ .now) (r₂ .now) (word-limit (length (r₃ .now)) (length zeros)) (r₄ .now)) (r₂ .now) r (ws .1 .1 .0) (ws .1 .1 .1 .0) (front (length (r₃ .now)) zeros (zw ws)) (ws .1 .1 .1 .1 .1 .1 .0)
+  CoreSays r ws = Replies (r₀ .now) question (lent (r₁ .now) (r₂ .now) (front (length (r₃ .now)) zeros zeros) (r₄ .now)) r (lent (ws .1 .1 .0) (ws .1 .1 .1 .0) (front (length (r₃ .now)) zeros (zw ws)) (ws .1 .1 .1 .1 .1 .1 .0))
 
   abbrev to-core : ℕ → GName → ℕ → Core 𝓤 H A at-mem run .Ghost
   to-core ν δ b = ((core-lfts ν, (q₀, (q₁, (q₂, (fullShare, (q₄, tt))))), tt, core-args δ b, (vq ∷ [], (s₀ ∷ [], (s₁ ∷ [], (s₂ ∷ [], (sliceVal (b, 0) 65535 ∷ [], (vint w64 (length (r₃ .now)) ∷ [], (s₄ ∷ [], tt)))))))), tt)
@@ -165,7 +165,7 @@ module _ {M : Type 1} (𝓤 : URA M) (H : Heap 𝓤) (A : Atoms 𝓤) (W : Given
 
   final : (r : Reply) (ws : CoreLasts) (ys : WriteLasts) → length (zw ws) ≡ length zeros → CoreSays r ws → Writes (zw ws) r₃ ys → Says r (ws .1 .1 .0) (ws .1 .1 .1 .0) (ys .1 .0) (ws .1 .1 .1 .1 .1 .1 .0)
   final r ws ys len-w e ew = subst (λ t. Says r (ws .1 .1 .0) (ws .1 .1 .1 .0) t (ws .1 .1 .1 .1 .1 .1 .0)) (sym ew)
-      (replies-left (r₀ .now) (r₁ .now) (r₂ .now) zeros (zw ws) (r₄ .now) (length (r₃ .now)) zeros-length len-w r (ws .1 .1 .0) (ws .1 .1 .1 .0) (ws .1 .1 .1 .1 .1 .1 .0) question e)
+      (replies-left (r₀ .now) (r₁ .now) (r₂ .now) zeros (zw ws) (r₄ .now) (r₃ .now) zeros-length len-w r (ws .1 .1 .0) (ws .1 .1 .1 .0) (ws .1 .1 .1 .1 .1 .1 .0) question e)
 
   module _ (room₀ : Room u8 (length (r₀ .now))) (room₁ : Room u32 (length (r₁ .now))) (room₂ : Room u32 (length (r₂ .now))) (room₃ : Room T.the-row (length (r₃ .now))) (room₄ : Room u32 (length (r₄ .now))) (is-q : Asks)
       (C : Calls 𝓤 H) (Λ : Loops 𝓤 H) (fm : FmC 𝓤 H (W .laws) C) (known-core : Triple 𝓤 (C #core) (Core 𝓤 H A at-mem run)) (known-write : Triple 𝓤 (C #records·write-records) (WriteRecords 𝓤 H A at-mem run)) where

@@ -1,9 +1,9 @@
 -- `record_loader::ask_words` meets its contract: each question is lent the front of the words. Assumes nothing.
 use mathlib.Core.Path.{refl, sym, subst}
 use mathlib.Core.List.{_++_}
-use lib.ListN.{length, drop}
-use Rattle.records.specs.Records.{word-limit}
-use Rattle.record_loader.specs.Recorded.{lengths-with, front}
+use lib.ListN.{drop}
+use Rattle.surface.specs.Tables.{tables}
+use Rattle.record_loader.specs.Recorded.{front}
 use Rattle.record_loader.proofs.Fronts.{within, taken, left}
 use Rattle.record_loader.specs.declared.Question.{Question}
 use Rattle.record_loader.specs.declared.Reply.{Reply}
@@ -80,9 +80,9 @@ returns c =
     let a = c .before .before .before .before .before .before .before .before .before .before .before .before .before .before .before .before .before .before .before .before .before .args in
     let k = c .before .before .before .before .before .before .before .before .load in
     let w = c .before .before .before .before .before .before .before .before .before .before .before .before .before .before .before .word-limit in
-    subst (λ (q : Question). Replies (a .s .now) q (lengths-with (a .surface .now) (a .core .now) (word-limit (a .count) (length (a .words .now))) (a .work .now)) (a .core .now) (Reply.Loaded (k .result)) (k .last .1 .0) (k .last .1 .1 .0) (front (a .count) (a .words .now) (k .last .1 .1 .1 .0 ++ drop (w .result) (a .words .now))) (k .last .1 .1 .1 .1 .0)) (sym (c .before .before .before .before .before .before .before .before .before .before .before .before .before .enum-told .given .1))
+    subst (λ (q : Question). Replies (a .s .now) q (tables (a .surface .now) (a .core .now) (front (a .count) (a .words .now) (a .words .now)) (a .work .now)) (Reply.Loaded (k .result)) (tables (k .last .1 .0) (k .last .1 .1 .0) (front (a .count) (a .words .now) (k .last .1 .1 .1 .0 ++ drop (w .result) (a .words .now))) (k .last .1 .1 .1 .1 .0))) (sym (c .before .before .before .before .before .before .before .before .before .before .before .before .before .enum-told .given .1))
     (left (a .count) (w .result) (a .words .now) (w .ensures) (k .last .1 .1 .1 .0) (k .kept .1 .1 .1 .0)
-    (λ d n. Replies (a .s .now) Question.Load (lengths-with (a .surface .now) (a .core .now) n (a .work .now)) (a .core .now) (Reply.Loaded (k .result)) (k .last .1 .0) (k .last .1 .1 .0) d (k .last .1 .1 .1 .1 .0))
+    (λ x y. Replies (a .s .now) Question.Load (tables (a .surface .now) (a .core .now) x (a .work .now)) (Reply.Loaded (k .result)) (tables (k .last .1 .0) (k .last .1 .1 .0) y (k .last .1 .1 .1 .1 .0)))
     (refl, k .ensures))
 
 same-length-5 : tie.Need-same-length-5
@@ -99,9 +99,9 @@ returns-2 c =
     let a = c .before .before .before .before .before .before .before .before .before .before .before .before .before .before .before .before .before .before .args in
     let k = c .before .before .before .before .before .before .parse-surface in
     let w = c .before .before .before .before .before .before .before .before .before .before .before .before .word-limit in
-    subst (λ (q : Question). Replies (a .s .now) q (lengths-with (a .surface .now) (a .core .now) (word-limit (a .count) (length (a .words .now))) (a .work .now)) (a .core .now) (Reply.Parsed (k .result)) (k .last .1 .0) (a .core .now) (front (a .count) (a .words .now) (k .last .1 .1 .0 ++ drop (w .result) (a .words .now))) (k .last .1 .1 .1 .0)) (sym (c .before .before .before .before .before .before .before .before .before .before .enum-told2 .given .1))
+    subst (λ (q : Question). Replies (a .s .now) q (tables (a .surface .now) (a .core .now) (front (a .count) (a .words .now) (a .words .now)) (a .work .now)) (Reply.Parsed (k .result)) (tables (k .last .1 .0) (a .core .now) (front (a .count) (a .words .now) (k .last .1 .1 .0 ++ drop (w .result) (a .words .now))) (k .last .1 .1 .1 .0))) (sym (c .before .before .before .before .before .before .before .before .before .before .enum-told2 .given .1))
     (left (a .count) (w .result) (a .words .now) (w .ensures) (k .last .1 .1 .0) (k .kept .1 .1 .0)
-    (λ d n. Replies (a .s .now) Question.Parse (lengths-with (a .surface .now) (a .core .now) n (a .work .now)) (a .core .now) (Reply.Parsed (k .result)) (k .last .1 .0) (a .core .now) d (k .last .1 .1 .1 .0))
+    (λ x y. Replies (a .s .now) Question.Parse (tables (a .surface .now) (a .core .now) x (a .work .now)) (Reply.Parsed (k .result)) (tables (k .last .1 .0) (a .core .now) y (k .last .1 .1 .1 .0)))
     (refl, (k .ensures, refl)))
 
 same-length-8 : tie.Need-same-length-8
@@ -121,10 +121,10 @@ returns-3 c =
     let a = c .before .before .before .before .before .before .before .before .before .before .before .before .before .before .before .before .before .before .before .before .before .before .args in
     let k = c .before .before .before .before .before .before .before .before .depends in
     let w = c .before .before .before .before .before .before .before .before .before .before .before .before .before .before .before .before .word-limit in
-    subst (λ (q : Question). Replies (a .s .now) q (lengths-with (a .surface .now) (a .core .now) (word-limit (a .count) (length (a .words .now))) (a .work .now)) (a .core .now) (Reply.Depends (k .result)) (k .last .1 .1 .1 .0) (k .last .1 .1 .1 .1 .0) (front (a .count) (a .words .now) (k .last .1 .1 .1 .1 .1 .0 ++ drop (w .result) (a .words .now))) (k .last .1 .1 .1 .1 .1 .1 .0)) (sym (c .before .before .before .before .before .before .before .before .before .before .before .before .before .before .question .given .1))
+    subst (λ (q : Question). Replies (a .s .now) q (tables (a .surface .now) (a .core .now) (front (a .count) (a .words .now) (a .words .now)) (a .work .now)) (Reply.Depends (k .result)) (tables (k .last .1 .1 .1 .0) (k .last .1 .1 .1 .1 .0) (front (a .count) (a .words .now) (k .last .1 .1 .1 .1 .1 .0 ++ drop (w .result) (a .words .now))) (k .last .1 .1 .1 .1 .1 .1 .0))) (sym (c .before .before .before .before .before .before .before .before .before .before .before .before .before .before .question .given .1))
     (left (a .count) (w .result) (a .words .now) (w .ensures) (k .last .1 .1 .1 .1 .1 .0) (k .kept .1 .1 .1 .1 .1 .0)
-    (λ d n. Replies (a .s .now) (Question.Depends (c .before .before .before .before .before .before .before .before .before .before .before .before .before .before .question .given .0 .0) (c .before .before .before .before .before .before .before .before .before .before .before .before .before .before .question .given .0 .1 .0)) (lengths-with (a .surface .now) (a .core .now) n (a .work .now)) (a .core .now) (Reply.Depends (k .result)) (k .last .1 .1 .1 .0) (k .last .1 .1 .1 .1 .0) d (k .last .1 .1 .1 .1 .1 .1 .0))
-    (refl, (k .ensures .0, k .ensures .1)))
+    (λ x y. Replies (a .s .now) (Question.Depends (c .before .before .before .before .before .before .before .before .before .before .before .before .before .before .question .given .0 .0) (c .before .before .before .before .before .before .before .before .before .before .before .before .before .before .question .given .0 .1 .0)) (tables (a .surface .now) (a .core .now) x (a .work .now)) (Reply.Depends (k .result)) (tables (k .last .1 .1 .1 .0) (k .last .1 .1 .1 .1 .0) y (k .last .1 .1 .1 .1 .1 .1 .0)))
+    (refl, k .ensures))
 
 pub ask-words-spec : {M : Type 1} → statement M
 ask-words-spec =

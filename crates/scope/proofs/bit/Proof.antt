@@ -1,9 +1,10 @@
 -- `bit` meets its contract. Assumes nothing.
-use Prim.Native.Nat.{_/_}
-use mathlib.Core.Path.{refl, sym}
+use Prim.Native.Nat.{_-_, _/_, _%_, _^_}
+use mathlib.Core.Path.{sym}
 use native.Mathlib.Omega.{arith}
-use Rattle.scope.specs.Index.{bit-of}
-use Rattle.scope.proofs.Index.{bit-low, bit-behind}
+use native.Mathlib.Nat.{mod-lt}
+use lib.ListN.{length}
+use Rattle.scope.proofs.Index.{bit-within, bit-behind}
 use borrow.Author.Needs.{needs}
 use Rattle.scope.proofs.bit.Statement.{statement}
 use Rattle.scope.proofs.bit.Tie as tie
@@ -11,18 +12,28 @@ use Rattle.scope.proofs.bit.Tie as tie
 returns : tie.Need-returns
 returns c = (sym (bit-behind _ _ (c .if1 .taken)), omega arith)
 
+sub-b : tie.Need-sub-b
+sub-b c = search needs
+
+sub-b-2 : tie.Need-sub-b-2
+sub-b-2 c = search needs
+
 shared-slice-read-b : tie.Need-shared-slice-read-b
 shared-slice-read-b c = search needs
 
 cast-b : tie.Need-cast-b
-cast-b c = omega (arith, c .shared-slice-known .given (c .before .before .args .i / 8))
+cast-b c =
+    let a = c .before .before .args in
+    omega (arith, c .shared-slice-known .given (length (a .x .now) - 1 - a .i / 8))
 
 shr-result : tie.Need-shr-result
 shr-result c = search needs
 
 returns-2 : tie.Need-returns-2
-unfolding bit-of
-returns-2 c = let a = c .before .before .args in (refl, bit-low (a .x .now) (a .i))
+returns-2 c =
+    let a = c .before .before .args in
+    (sym (bit-within (a .x .now) (a .i) (omega arith)), mod-lt _ (omega arith))
 
 pub bit-spec : {M : Type 1} → statement M
-bit-spec = tie.close (tie.spec returns shared-slice-read-b cast-b shr-result returns-2)
+bit-spec =
+    tie.close (tie.spec returns sub-b sub-b-2 shared-slice-read-b cast-b shr-result returns-2)

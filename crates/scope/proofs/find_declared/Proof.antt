@@ -1,5 +1,5 @@
 -- `find_declared` meets its contract: the declarations passed do not have the name. Assumes nothing.
-use Prim.Native.Nat.{_-_, _≤_}
+use Prim.Native.Nat.{ℕ, _+_, _-_, _≤_}
 use mathlib.Core.Path.{_≡_, sym, _∙_, ap, subst}
 use native.Mathlib.Omega.{arith}
 use borrow.Author.Needs.{needs}
@@ -9,19 +9,24 @@ use Rattle.scope.proofs.find_declared.Statement.{statement}
 use Rattle.scope.proofs.find_declared.Tie as tie
 
 abbrev Inv-loop : tie.InvT-loop
-Inv-loop s declarations d x i₀ i = (i ≤ d) × Passed x (declared-names s declarations 0 d) i (declared-names s declarations i (d - i))
+Inv-loop s declarations d x left₀ left = (left ≤ d) × Passed x (declared-names s declarations 0 d) (d - left) (declared-names s declarations (d - left) (d - (d - left)))
 
 abbrev μ-loop : tie.MeasureT-loop
-μ-loop s declarations d x i₀ i = d - i
+μ-loop s declarations d x left₀ left = left
 
 loop-holds : tie.Need-loop-holds Inv-loop μ-loop
 loop-holds c =
     let a = c .before .before .before .args in (
       omega arith,
-      subst (Passed (a .x .now) _ 0)
+      subst (λ (m : ℕ). Passed (a .x .now) (declared-names (a .s .now) (a .declarations .now) 0 (a .d)) m (declared-names (a .s .now) (a .declarations .now) m (a .d - m)))
+          (let q : 0 ≡ a .d - a .d = omega arith in q)
+          (subst (Passed (a .x .now) _ 0)
           (ap (declared-names (a .s .now) (a .declarations .now) 0) (let q : a .d ≡ a .d - 0 = omega arith in q))
-          (passed-none (a .x .now) (declared-names (a .s .now) (a .declarations .now) 0 (a .d))),
+          (passed-none (a .x .now) (declared-names (a .s .now) (a .declarations .now) 0 (a .d)))),
     )
+
+sub-k : tie.Need-sub-k Inv-loop μ-loop
+sub-k c = omega arith
 
 mul-a : tie.Need-mul-a Inv-loop μ-loop
 mul-a c = omega arith
@@ -57,11 +62,11 @@ returns : tie.Need-returns Inv-loop μ-loop
 returns c =
     let l = c .before .before .before .before .before in
     let a = l .before .before .before .before .args in
-    hit (a .x .now) _ _ _ (l .loop .inv .1) _ _ (declared-next (a .s .now) (a .declarations .now) (l .loop .i) (a .d) (omega arith))
+    hit (a .x .now) _ _ _ (l .loop .inv .1) _ _ (declared-next (a .s .now) (a .declarations .now) (a .d - l .loop .left) (a .d) (omega arith))
     (sym (c .before .is-name .ensures) ∙ c .if1 .taken)
 
-add-i : tie.Need-add-i Inv-loop μ-loop
-add-i c = omega arith
+sub-left : tie.Need-sub-left Inv-loop μ-loop
+sub-left c = omega arith
 
 loop-less : tie.Need-loop-less Inv-loop μ-loop
 loop-less c = omega arith
@@ -71,15 +76,17 @@ loop-again c =
     let l = c .before .before .before .before .before in
     let a = l .before .before .before .before .args in (
       omega arith,
-      miss (a .x .now) _ _ _ (l .loop .inv .1) _ _ (declared-next (a .s .now) (a .declarations .now) (l .loop .i) (a .d) (omega arith))
-          (sym (c .before .is-name .ensures) ∙ c .if1 .left),
+      subst (λ (m : ℕ). Passed (a .x .now) (declared-names (a .s .now) (a .declarations .now) 0 (a .d)) m (declared-names (a .s .now) (a .declarations .now) m (a .d - m)))
+          (let q : a .d - l .loop .left + 1 ≡ a .d - (l .loop .left - 1) = omega arith in q)
+          (miss (a .x .now) _ _ _ (l .loop .inv .1) _ _ (declared-next (a .s .now) (a .declarations .now) (a .d - l .loop .left) (a .d) (omega arith))
+          (sym (c .before .is-name .ensures) ∙ c .if1 .left)),
     )
 
 returns-2 : tie.Need-returns-2 Inv-loop μ-loop
 returns-2 c =
     let l = c .before in
     let a = l .before .before .before .before .args in
-    passed-all (a .x .now) _ _ _ (l .loop .inv .1) (no-declaration (a .s .now) (a .declarations .now) (l .loop .i) (a .d) (omega arith))
+    passed-all (a .x .now) _ _ _ (l .loop .inv .1) (no-declaration (a .s .now) (a .declarations .now) (a .d - l .loop .left) (a .d) (omega arith))
 
 pub find-declared-spec : {M : Type 1} → statement M
 find-declared-spec =
@@ -88,6 +95,7 @@ find-declared-spec =
     Inv-loop
     μ-loop
     loop-holds
+    sub-k
     mul-a
     add-a
     mul-a-2
@@ -99,7 +107,7 @@ find-declared-spec =
     is-name-requires
     cast-place
     returns
-    add-i
+    sub-left
     loop-less
     loop-again
     returns-2)

@@ -35,32 +35,28 @@ same-length c = search needs
 
 returns : tie.Need-returns
 unfolding work-of
-returns c =
-    λ h area. pushed-as (sym (c .before .before .before .before .before .item .given .1)) (c .before .before .store-work .ensures h area)
+returns c = pushed-as (sym (c .before .before .before .before .before .item .given .1)) (c .before .before .store-work .ensures)
 
 same-length-2 : tie.Need-same-length-2
 same-length-2 c = search needs
 
 returns-2 : tie.Need-returns-2
 unfolding work-of
-returns-2 c =
-    λ h area. pushed-as (sym (c .before .before .before .before .before .item2 .given .1)) (c .before .before .store-work2 .ensures h area)
+returns-2 c = pushed-as (sym (c .before .before .before .before .before .item2 .given .1)) (c .before .before .store-work2 .ensures)
 
 same-length-3 : tie.Need-same-length-3
 same-length-3 c = search needs
 
 returns-3 : tie.Need-returns-3
 unfolding work-of
-returns-3 c =
-    λ h area. pushed-as (sym (c .before .before .before .before .enum-told .given .1)) (c .before .before .store-work3 .ensures h area)
+returns-3 c = pushed-as (sym (c .before .before .before .before .enum-told .given .1)) (c .before .before .store-work3 .ensures)
 
 same-length-4 : tie.Need-same-length-4
 same-length-4 c = search needs
 
 returns-4 : tie.Need-returns-4
 unfolding work-of
-returns-4 c =
-    λ h area. pushed-as (sym (c .before .before .before .before .before .item3 .given .1)) (c .before .before .store-work4 .ensures h area)
+returns-4 c = pushed-as (sym (c .before .before .before .before .before .item3 .given .1)) (c .before .before .store-work4 .ensures)
 
 pub push-work-spec : {M : Type 1} → statement M
 push-work-spec =

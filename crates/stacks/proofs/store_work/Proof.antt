@@ -1,46 +1,63 @@
 -- `store_work` meets its contract. Assumes nothing.
-use Prim.Native.Nat.{_+_}
-use mathlib.Core.List.{_∷_}
-use mathlib.Core.Path.{sym, subst}
 use native.Mathlib.Omega.{arith}
-use Rattle.stacks.specs.Stacks.{works-in, work-of, WorkPushed}
+use lib.ListN.{length-set}
 use Rattle.stacks.proofs.Pushing.{work-pushed}
 use borrow.Author.Needs.{needs}
 use Rattle.stacks.proofs.store_work.Statement.{statement}
 use Rattle.stacks.proofs.store_work.Tie as tie
 
-mul-store : tie.Need-mul-store
-mul-store c = search needs
+mul-at : tie.Need-mul-at
+mul-at c = search needs
 
-add-store : tie.Need-add-store
-add-store c = search needs
+add-at : tie.Need-add-at
+add-at c = search needs
 
-slice-aggregate-store : tie.Need-slice-aggregate-store
-slice-aggregate-store c = search needs
+mul-work : tie.Need-mul-work
+mul-work c = search needs
 
-store-requires : tie.Need-store-requires
-store-requires c κs = search needs
+slice-write-work : tie.Need-slice-write-work
+slice-write-work c = search needs
+
+add-work : tie.Need-add-work
+add-work c = search needs
+
+mul-work-2 : tie.Need-mul-work-2
+mul-work-2 c = search needs
+
+slice-write-work-2 : tie.Need-slice-write-work-2
+slice-write-work-2 c = simp length-set (omega arith)
+
+add-work-2 : tie.Need-add-work-2
+add-work-2 c = search needs
+
+mul-work-3 : tie.Need-mul-work-3
+mul-work-3 c = search needs
+
+slice-write-work-3 : tie.Need-slice-write-work-3
+slice-write-work-3 c = simp length-set (omega arith)
 
 same-length : tie.Need-same-length
 same-length c = search needs
 
 returns : tie.Need-returns
 returns c =
-    let a = c .before .before .before .before .before .before .before .args in
-    let w = a .work .now in
-    λ h area. subst (λ x. WorkPushed w x (a .t + 1) (work-of (a .op) (a .a) (a .b) ∷ works-in w (a .t))) (sym (c .before .before .store .ensures .1)) (work-pushed w area (a .t) (a .op) (a .a) (a .b) h)
-
-returns-2 : tie.Need-returns-2
-returns-2 c = λ h area. absurd (omega arith)
+    let o = c in
+    let a = o .args in
+    work-pushed (a .work .now) (o .pre .1) (a .t) (a .op) (a .a) (a .b) (o .pre .0)
 
 pub store-work-spec : {M : Type 1} → statement M
 store-work-spec =
     tie.close
     (tie.spec
-    mul-store
-    add-store
-    slice-aggregate-store
-    store-requires
+    mul-at
+    add-at
+    mul-work
+    slice-write-work
+    add-work
+    mul-work-2
+    slice-write-work-2
+    add-work-2
+    mul-work-3
+    slice-write-work-3
     same-length
-    returns
-    returns-2)
+    returns)

@@ -1,9 +1,4 @@
 -- `sulyterom::sulyterom_load` meets its contract. Assumes nothing.
-use mathlib.Core.Path.{_≡_, sym, ap, _∙_}
-use Rattle.surface.specs.declared.Answer.{Answer}
-use Rattle.surface.specs.Loading.{Outcome, report}
-use Rattle.loader.specs.Leaving.{leaving}
-use Rattle.sulyterom.specs.Numbers.{numbers}
 use Rattle.sulyterom.proofs.Telling.{tells}
 use borrow.Author.Needs.{needs}
 use Rattle.sulyterom.proofs.sulyterom_load.Statement.{statement}
@@ -35,13 +30,8 @@ same-length-5 c = search needs
 
 returns : tie.Need-returns
 returns c =
-    let o = c .before .before .before .before .before .before .before .before .before .before .before .before .before .before .before .before .before .before .before .before .before .before .before .before .args in
     let k = c .before .before .before .before .before .before .before .before .before .before .before .before .before .load in
-    let a : k .result ≡ _ = ap (λ (x : Outcome). x .answer) (k .ensures) in
-    record {
-      tells = tells 3 _ _ (o .answer .now) _ _ (c .before .before .before .before .report-loaded .ensures ∙ ap (λ (x : Answer). numbers (report x)) a) (c .before .before .tell .ensures);
-      left = ap (λ (x : Answer). leaving x (k .last .1 .0) (k .last .1 .1 .0) (k .last .1 .1 .1 .0) (k .last .1 .1 .1 .1 .0)) (sym a) ∙ k .ensures;
-    }
+    tells 3 _ (c .before .before .before .before .before .before .before .before .before .before .before .before .before .before .before .before .before .before .before .before .before .before .before .before .args .answer .now) _ _ (k .result) (k .ensures) (c .before .before .before .before .report-loaded .ensures) (c .before .before .tell .ensures)
 
 pub sulyterom-load-spec : {M : Type 1} → statement M
 sulyterom-load-spec =

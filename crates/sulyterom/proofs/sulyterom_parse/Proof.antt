@@ -1,8 +1,4 @@
 -- `sulyterom::sulyterom_parse` meets its contract. Assumes nothing.
-use mathlib.Core.Path.{_≡_, sym, ap, _∙_}
-use Rattle.reader.specs.declared.ModuleRead.{ModuleRead}
-use Rattle.loader.specs.Parsed.{Parsed, parsing-leaves}
-use Rattle.sulyterom.specs.Numbers.{numbers, report-read}
 use Rattle.sulyterom.proofs.Telling.{tells}
 use borrow.Author.Needs.{needs}
 use Rattle.sulyterom.proofs.sulyterom_parse.Statement.{statement}
@@ -31,13 +27,8 @@ same-length-4 c = search needs
 
 returns : tie.Need-returns
 returns c =
-    let o = c .before .before .before .before .before .before .before .before .before .before .before .before .before .before .before .before .before .before .before .before .args in
     let k = c .before .before .before .before .before .before .before .before .before .before .before .parse-surface in
-    let a : k .result ≡ _ = ap (λ (x : Parsed). x .answer) (k .ensures) in
-    record {
-      tells = tells 3 _ _ (o .answer .now) _ _ (c .before .before .before .before .report-read .ensures ∙ ap (λ (x : ModuleRead). numbers (report-read x)) a) (c .before .before .tell .ensures);
-      left = ap (λ (x : ModuleRead). parsing-leaves x (k .last .1 .0) (k .last .1 .1 .0) (k .last .1 .1 .1 .0)) (sym a) ∙ k .ensures;
-    }
+    tells 3 _ (c .before .before .before .before .before .before .before .before .before .before .before .before .before .before .before .before .before .before .before .before .args .answer .now) _ _ (k .result) (k .ensures) (c .before .before .before .before .report-read .ensures) (c .before .before .tell .ensures)
 
 pub sulyterom-parse-spec : {M : Type 1} → statement M
 sulyterom-parse-spec =

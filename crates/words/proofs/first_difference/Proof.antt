@@ -2,8 +2,7 @@
 use Prim.Native.Nat.{_-_}
 use native.Mathlib.Omega.{arith}
 use lib.ListN.{length}
-use Rattle.words.specs.Differences.{Shared}
-use Rattle.words.proofs.Differences.{shared-byte, differs-here, differs-nowhere}
+use Rattle.words.proofs.Differences.{Shared, shared-none, shared-byte, differs-here, differs-nowhere}
 use Rattle.words.proofs.first_difference.Statement.{statement}
 use Rattle.words.proofs.first_difference.Tie as tie
 
@@ -13,11 +12,8 @@ Inv-loop a b i₀ i = Shared a b i
 abbrev μ-loop : tie.MeasureT-loop
 μ-loop a b i₀ i = length a - i
 
-same-blocks-requires : tie.Need-same-blocks-requires Inv-loop μ-loop
-same-blocks-requires c κs = c .before .before .pre
-
 loop-holds : tie.Need-loop-holds Inv-loop μ-loop
-loop-holds c = c .same-blocks .ensures
+loop-holds c = shared-none _ _
 
 shared-slice-read-if1 : tie.Need-shared-slice-read-if1 Inv-loop μ-loop
 shared-slice-read-if1 c = omega arith
@@ -46,7 +42,6 @@ first-difference-spec =
     (tie.spec
     Inv-loop
     μ-loop
-    same-blocks-requires
     loop-holds
     shared-slice-read-if1
     shared-slice-read-if1-2

@@ -30,14 +30,8 @@ same-length-5 c = search needs
 
 returns : tie.Need-returns
 returns c =
-    let o = c .before .before .before .before .before .before .before .before .before .before .before .before .before .before .before .before .before .before .before .before .before .before .before .before .args in
     let k = c .before .before .before .before .before .before .before .before .before .before .before .before .before .depends in
-    record {
-      dependence = k .result;
-      answers = k .ensures .0;
-      tells = tells 3 _ _ (o .answer .now) _ _ (c .before .before .before .before .report-dependence .ensures) (c .before .before .tell .ensures);
-      left = k .ensures .1;
-    }
+    tells 3 _ (c .before .before .before .before .before .before .before .before .before .before .before .before .before .before .before .before .before .before .before .before .before .before .before .before .args .answer .now) _ _ (k .result) (k .ensures) (c .before .before .before .before .report-dependence .ensures) (c .before .before .tell .ensures)
 
 pub sulyterom-depends-spec : {M : Type 1} → statement M
 sulyterom-depends-spec =

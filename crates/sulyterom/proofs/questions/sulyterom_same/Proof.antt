@@ -39,9 +39,8 @@ same-length-8 c = search needs
 
 returns : tie.Need-returns
 returns c =
-    let o = c .before .before .before .before .before .before .before .before .before .before .before .before .before .before .before .before .before .before .before .before .before .before .before .before .before .before .before .before .before .before .before .before .before .before .before .before .before .args in
     let k = c .before .before .before .before .before .before .before .before .before .before .before .before .before .before .before .before .before .before .before .same in
-    record { comparison = k .result; asked = k .ensures; tells = tells 3 _ _ (o .answer .now) _ _ (c .before .before .before .before .report-comparison .ensures) (c .before .before .tell .ensures) }
+    tells 3 _ (c .before .before .before .before .before .before .before .before .before .before .before .before .before .before .before .before .before .before .before .before .before .before .before .before .before .before .before .before .before .before .before .before .before .before .before .before .before .args .answer .now) _ _ (k .result) (k .ensures) (c .before .before .before .before .report-comparison .ensures) (c .before .before .tell .ensures)
 
 pub sulyterom-same-spec : {M : Type 1} → statement M
 sulyterom-same-spec =

@@ -1,5 +1,6 @@
 -- `sulyterom::reports::report_listed` meets its contract. Assumes nothing.
 use mathlib.Core.Path.{sym, ap, _∙_}
+use Rattle.surface.specs.declared.Answer.{Answer}
 use Rattle.sulyterom.specs.Numbers.{numbers, report-listed}
 use borrow.Author.Needs.{needs}
 use Rattle.sulyterom.proofs.reports.report_listed.Statement.{statement}
@@ -15,10 +16,14 @@ report-refused-text-requires : tie.Need-report-refused-text-requires
 report-refused-text-requires c κs = search needs
 
 returns : tie.Need-returns
-returns c = ap (λ x. numbers (report-listed x (c .before .before .before .args .length))) (sym (c .before .answer .given .1))
+returns c =
+    let l = c .before .before .before .args .listed in
+    ap (λ (x : Answer). numbers (report-listed (record { answer = x; length = l .length }))) (sym (c .before .answer .given .1))
 
 returns-2 : tie.Need-returns-2
-returns-2 c = c .report-refused-text .ensures ∙ ap (λ x. numbers (report-listed x (c .before .before .before .before .args .length))) (sym (c .before .before .answer2 .given .1))
+returns-2 c =
+    let l = c .before .before .before .before .args .listed in
+    c .report-refused-text .ensures ∙ ap (λ (x : Answer). numbers (report-listed (record { answer = x; length = l .length }))) (sym (c .before .before .answer2 .given .1))
 
 pub report-listed-spec : {M : Type 1} → statement M
 report-listed-spec =

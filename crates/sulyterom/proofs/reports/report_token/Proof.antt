@@ -10,8 +10,8 @@ use Rattle.sulyterom.proofs.reports.report_token.Tie as tie
 enum-known-lexed : tie.Need-enum-known-lexed
 enum-known-lexed c = search needs
 
-kind-number-requires : tie.Need-kind-number-requires
-kind-number-requires c κs = search needs
+token-number-requires : tie.Need-token-number-requires
+token-number-requires c κs = search needs
 
 enum-known-lexed-2 : tie.Need-enum-known-lexed-2
 enum-known-lexed-2 c = search needs
@@ -22,7 +22,7 @@ report-refusal-requires c κs = search needs
 returns : tie.Need-returns
 returns c =
     let t = c .before .before .lexed .given .0 .0 in
-    ap (λ (k : ℕ). numbers (record { number = 0; values = k ∷ t .start ∷ t .end ∷ [] })) (c .kind-number .ensures) ∙ ap (λ x. numbers (report-token x)) (sym (c .before .before .lexed .given .1))
+    ap (λ (k : ℕ). numbers (record { number = 0; values = k ∷ t .start ∷ t .end ∷ [] })) (c .token-number .ensures) ∙ ap (λ x. numbers (report-token x)) (sym (c .before .before .lexed .given .1))
 
 returns-2 : tie.Need-returns-2
 returns-2 c = c .report-refusal .ensures ∙ ap (λ x. numbers (report-token x)) (sym (c .before .before .lexed2 .given .1))
@@ -32,7 +32,7 @@ report-token-spec =
     tie.close
     (tie.spec
     enum-known-lexed
-    kind-number-requires
+    token-number-requires
     enum-known-lexed-2
     report-refusal-requires
     returns

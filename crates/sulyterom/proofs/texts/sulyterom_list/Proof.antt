@@ -1,9 +1,4 @@
 -- `sulyterom::texts::sulyterom_list` meets its contract. Assumes nothing.
-use mathlib.Core.Path.{_≡_, sym, ap, _∙_}
-use Rattle.surface.specs.declared.Answer.{Answer}
-use Rattle.surface.specs.Loading.{Outcome}
-use Rattle.loader.specs.Leaving.{leaving}
-use Rattle.sulyterom.specs.Numbers.{numbers, report-listed}
 use Rattle.sulyterom.proofs.Telling.{tells}
 use borrow.Author.Needs.{needs}
 use Rattle.sulyterom.proofs.texts.sulyterom_list.Statement.{statement}
@@ -38,14 +33,8 @@ same-length-6 c = search needs
 
 returns : tie.Need-returns
 returns c =
-    let o = c .before .before .before .before .before .before .before .before .before .before .before .before .before .before .before .before .before .before .before .before .before .before .before .before .before .before .before .before .args in
     let k = c .before .before .before .before .before .before .before .before .before .before .before .before .before .before .before .list in
-    let a : k .result .answer ≡ _ = ap (λ (x : Outcome). x .answer) (k .ensures .loads) in
-    record {
-      tells = tells 4 _ _ (o .answer .now) _ _ (c .before .before .before .before .report-listed .ensures ∙ λ i. numbers (report-listed (a i) (k .ensures .told i))) (c .before .before .tell-all .ensures);
-      content = k .ensures .content;
-      left = ap (λ (x : Answer). leaving x (k .last .1 .0) (k .last .1 .1 .0) (k .last .1 .1 .1 .0) (k .last .1 .1 .1 .1 .0)) (sym a) ∙ k .ensures .loads;
-    }
+    tells 4 _ (c .before .before .before .before .before .before .before .before .before .before .before .before .before .before .before .before .before .before .before .before .before .before .before .before .before .before .before .before .args .answer .now) _ _ (k .result) (k .ensures) (c .before .before .before .before .report-listed .ensures) (c .before .before .tell-all .ensures)
 
 pub sulyterom-list-spec : {M : Type 1} → statement M
 sulyterom-list-spec =

@@ -1,7 +1,6 @@
 -- `sulyterom::texts::sulyterom_token` meets its contract. Assumes nothing.
-use mathlib.Core.Path.{ap, _∙_}
+use mathlib.Core.Path.{ap}
 use Rattle.lexer.specs.declared.Stepped.{Stepped}
-use Rattle.sulyterom.specs.Numbers.{numbers, report-token}
 use Rattle.sulyterom.proofs.Telling.{tells}
 use borrow.Author.Needs.{needs}
 use Rattle.sulyterom.proofs.texts.sulyterom_token.Statement.{statement}
@@ -21,8 +20,8 @@ same-length c = search needs
 
 returns : tie.Need-returns
 returns c =
-    let o = c .before .before .before .before .before .before .before .before .args in
-    tells 4 _ _ (o .answer .now) _ _ (c .before .before .before .before .report-token .ensures ∙ ap (λ (x : Stepped). numbers (report-token (x .lexed))) (c .before .before .before .before .before .lex .ensures)) (c .before .before .tell-all .ensures)
+    let k = c .before .before .before .before .before .lex in
+    tells 4 _ (c .before .before .before .before .before .before .before .before .args .answer .now) _ _ (k .result .lexed) (ap (λ (x : Stepped). x .lexed) (k .ensures)) (c .before .before .before .before .report-token .ensures) (c .before .before .tell-all .ensures)
 
 pub sulyterom-token-spec : {M : Type 1} → statement M
 sulyterom-token-spec =

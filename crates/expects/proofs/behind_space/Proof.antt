@@ -1,0 +1,24 @@
+-- `expects::behind_space` meets its contract. Assumes nothing.
+use mathlib.Core.Path.{refl}
+use Rattle.expects.proofs.Tokens.{space-here}
+use borrow.Author.Needs.{needs}
+use Rattle.expects.proofs.behind_space.Statement.{statement}
+use Rattle.expects.proofs.behind_space.Tie as tie
+
+shared-slice-read-if2 : tie.Need-shared-slice-read-if2
+shared-slice-read-if2 c = search needs
+
+add-result : tie.Need-add-result
+add-result c = search needs
+
+returns : tie.Need-returns
+returns c = space-here _ _ (search needs) (c .if2 .taken)
+
+returns-2 : tie.Need-returns-2
+returns-2 c = refl
+
+returns-3 : tie.Need-returns-3
+returns-3 c = refl
+
+pub behind-space-spec : {M : Type 1} → statement M
+behind-space-spec = tie.close (tie.spec shared-slice-read-if2 add-result returns returns-2 returns-3)

@@ -1,0 +1,23 @@
+-- `expects::open_at` meets its contract. Assumes nothing.
+use Rattle.expects.proofs.Tokens.{open-here}
+use borrow.Author.Needs.{needs}
+use Rattle.expects.proofs.open_at.Statement.{statement}
+use Rattle.expects.proofs.open_at.Tie as tie
+
+shared-slice-read-if2 : tie.Need-shared-slice-read-if2
+shared-slice-read-if2 c = search needs
+
+add-end : tie.Need-add-end
+add-end c = search needs
+
+returns : tie.Need-returns
+returns c = open-here _ _ (search needs) (c .if2 .taken)
+
+next-token-requires : tie.Need-next-token-requires
+next-token-requires c κs = search needs
+
+returns-2 : tie.Need-returns-2
+returns-2 c = search needs
+
+pub open-at-spec : {M : Type 1} → statement M
+open-at-spec = tie.close (tie.spec shared-slice-read-if2 add-end returns next-token-requires returns-2)
