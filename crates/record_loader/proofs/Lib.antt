@@ -6,4 +6,5 @@ mod Moves
 mod Replying
 mod Room
 mod Settling
+pub mod Statements
 mod Words

@@ -2,7 +2,7 @@
 use mathlib.Core.Path.{_≡_, ap, _∙_}
 use mathlib.Core.List.{List}
 use Prim.Native.Nat.{ℕ}
-use Rattle.surface.specs.Loading.{Report}
+use Rattle.surface.specs.Reports.{Report}
 use Rattle.sulyterom.specs.declared.Numbers.{Numbers}
 use Rattle.sulyterom.specs.Numbers.{numbers, words, told, Told}
 

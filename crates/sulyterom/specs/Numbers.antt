@@ -1,36 +1,17 @@
--- The answers as plain numbers, for C and Rust: "a definition provides this paper's number and values for each of the enum's cases". Assumes nothing.
+-- The answers as plain numbers, for C and Rust. Assumes nothing.
 use mathlib.Core.Path.{_≡_}
 use mathlib.Core.Bool.{cond}
 use mathlib.Core.List.{List, [], _∷_, _++_}
 use Prim.Native.Nat.{ℕ}
 use lib.Dec.{leb}
 use lib.ListN.{length, getD, take, drop}
-use Rattle.token.specs.declared.TokenKind.{TokenKind}
-use Rattle.token.specs.declared.Lexed.{Lexed}
-use Rattle.surface.specs.Loading.{Report, report-refusal, report}
-use Rattle.reader.specs.declared.ModuleRead.{ModuleRead}
+use Rattle.surface.specs.Reports.{Report, report}
 use Rattle.lister.specs.declared.Listed.{Listed}
 use Rattle.sulyterom.specs.declared.Numbers.{Numbers}
 
--- Of reading alone: 0 and the counts of rows and declarations, or the refusal.
-abbrev pub report-read : ModuleRead → Report
-report-read (ModuleRead.Done rows declarations) = record { number = 0; values = rows ∷ declarations ∷ [] }
-report-read (ModuleRead.Refused r) = report-refusal r
-
--- Of a listing: what loading reports, and then the length of the text.
+-- The number and values of a listing: what loading reports, and then the length of the text.
 abbrev pub report-listed : Listed → Report
 report-listed l = record { number = report (l .answer) .number; values = report (l .answer) .values ++ (l .length ∷ []) }
-
-abbrev pub token-number : TokenKind → ℕ
-token-number TokenKind.LParen = 1
-token-number TokenKind.RParen = 2
-token-number TokenKind.Atom = 3
-token-number TokenKind.Eof = 4
-
--- Of a token: 0, its kind, where it starts and where it ends; or the refusal.
-abbrev pub report-token : Lexed → Report
-report-token (Lexed.Got t) = record { number = 0; values = token-number (t .kind) ∷ t .start ∷ t .end ∷ [] }
-report-token (Lexed.Refused r) = report-refusal r
 
 -- A report by value: how many values follow, and these; then 0.
 abbrev pub numbers : Report → Numbers

@@ -9,9 +9,10 @@ use crate::reports::report_read;
 use crate::reports::tell;
 ghost use mathlib.Core.List.{[]};
 ghost use Rattle.surface.specs.Tables.{tables};
-ghost use Rattle.surface.specs.Loading.{report, Loads};
-ghost use Rattle.loader.specs.Parsed.{Parses};
-ghost use Rattle.sulyterom.specs.Numbers.{report-read, Told};
+ghost use Rattle.surface.specs.Reports.{report};
+ghost use Rattle.surface.specs.Loading.{Loads};
+ghost use Rattle.loader.specs.Parsed.{report-read, Parses};
+ghost use Rattle.sulyterom.specs.Numbers.{Told};
 
 // An answer as plain numbers: what a call answers; then how many values follow, and these, and 0 behind them.
 pub struct Numbers {

@@ -3,7 +3,8 @@ use crate::reports::report_comparison;
 use crate::reports::report_dependence;
 use crate::reports::tell;
 ghost use Rattle.surface.specs.Tables.{tables, lengths};
-ghost use Rattle.surface.specs.Dependence.{report-dependence, Asks};
+ghost use Rattle.surface.specs.Reports.{report-dependence};
+ghost use Rattle.surface.specs.Dependence.{Asks};
 ghost use Rattle.same.specs.Comparison.{report-comparison, Asked};
 ghost use Rattle.sulyterom.specs.Numbers.{Told};
 

@@ -11,10 +11,10 @@ use token::Refusal;
 use token::TokenKind;
 ghost use mathlib.Core.Path.{_≡_};
 ghost use mathlib.Core.List.{[], _∷_, _++_};
-ghost use Rattle.surface.specs.Loading.{offsets, report-refusal, report};
-ghost use Rattle.surface.specs.Dependence.{report-dependence};
+ghost use Rattle.surface.specs.Reports.{offsets, report-refusal, report, report-dependence, token-number, report-token};
+ghost use Rattle.loader.specs.Parsed.{report-read};
 ghost use Rattle.same.specs.Comparison.{report-comparison};
-ghost use Rattle.sulyterom.specs.Numbers.{numbers, words, told, token-number, report-read, report-listed, report-token};
+ghost use Rattle.sulyterom.specs.Numbers.{numbers, words, told, report-listed};
 
 fn report_refusal(refusal: Refusal) -> Numbers
     ensures { λ r. ⌜ r ≡ numbers (report-refusal refusal) ⌝ }

@@ -1,6 +1,6 @@
 -- `sulyterom::reports::report_loaded` meets its contract. Assumes nothing.
 use mathlib.Core.Path.{sym, ap, _∙_}
-use Rattle.surface.specs.Loading.{report}
+use Rattle.surface.specs.Reports.{report}
 use Rattle.sulyterom.specs.Numbers.{numbers}
 use borrow.Author.Needs.{needs}
 use Rattle.sulyterom.proofs.reports.report_loaded.Statement.{statement}

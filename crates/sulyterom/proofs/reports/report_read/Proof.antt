@@ -1,6 +1,7 @@
 -- `sulyterom::reports::report_read` meets its contract. Assumes nothing.
 use mathlib.Core.Path.{sym, ap, _∙_}
-use Rattle.sulyterom.specs.Numbers.{numbers, report-read}
+use Rattle.loader.specs.Parsed.{report-read}
+use Rattle.sulyterom.specs.Numbers.{numbers}
 use borrow.Author.Needs.{needs}
 use Rattle.sulyterom.proofs.reports.report_read.Statement.{statement}
 use Rattle.sulyterom.proofs.reports.report_read.Tie as tie

@@ -1,7 +1,7 @@
 -- `sulyterom::reports::report_refusal` meets its contract. Assumes nothing.
 use mathlib.Core.Path.{sym, ap}
 use Rattle.token.specs.declared.Place.{Place}
-use Rattle.surface.specs.Loading.{offsets}
+use Rattle.surface.specs.Reports.{offsets}
 use Rattle.sulyterom.specs.Numbers.{numbers}
 use borrow.Author.Needs.{needs}
 use Rattle.sulyterom.proofs.reports.report_refusal.Statement.{statement}

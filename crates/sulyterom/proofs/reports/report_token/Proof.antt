@@ -2,7 +2,8 @@
 use mathlib.Core.Path.{sym, ap, _∙_}
 use mathlib.Core.List.{[], _∷_}
 use Prim.Native.Nat.{ℕ}
-use Rattle.sulyterom.specs.Numbers.{numbers, report-token}
+use Rattle.surface.specs.Reports.{report-token}
+use Rattle.sulyterom.specs.Numbers.{numbers}
 use borrow.Author.Needs.{needs}
 use Rattle.sulyterom.proofs.reports.report_token.Statement.{statement}
 use Rattle.sulyterom.proofs.reports.report_token.Tie as tie

@@ -2,7 +2,7 @@
 use mathlib.Core.Path.{sym, ap}
 use mathlib.Core.List.{_∷_}
 use Rattle.token.specs.declared.Place.{Place}
-use Rattle.surface.specs.Loading.{offsets}
+use Rattle.surface.specs.Reports.{offsets}
 use Rattle.sulyterom.specs.Numbers.{numbers}
 use borrow.Author.Needs.{needs}
 use Rattle.sulyterom.proofs.reports.report_which.Statement.{statement}
