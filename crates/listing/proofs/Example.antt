@@ -9,9 +9,10 @@ use Rattle.surface.specs.Reading.{store, finish, several, term, token, opening,
 use Rattle.surface.specs.Loading.{parsing, reading, loading, load}
 use Rattle.text.specs.Text.{digits, decimal}
 use Rattle.lines.specs.Listing.{listing, first-line, row-lines, row-line, row-fields, kind-word, numbers, declaration-lines, declaration-line, declaration-word, declaration-rows}
+use Rattle.lister.specs.Lists.{listing-text}
 use Rattle.listing.specs.Program.{program-text}
 use Rattle.listing.specs.Promises.{ExamplePrinted}
 
 pub example-printed : ExamplePrinted
-unfolding byte-class layout-end atom-from token-here next-token same-bytes reserved-words place-in word-index reserved all identifier numeral table-3-7 following valid-from valid-length byte-order-mark forms edition-0-1 form-of-word form-of-kind arity-of find core-of first-unknown first-refused store finish several term token opening closing atom word natural declaration-kind name bare tagged known beginning-on beginning body declared declaration onwards declarations edition-of supported surface-line module-line head read-module parsing reading loading load digits decimal listing first-line row-lines row-line row-fields kind-word numbers declaration-lines declaration-line declaration-word declaration-rows program-text
+unfolding byte-class layout-end atom-from token-here next-token same-bytes reserved-words place-in word-index reserved all identifier numeral table-3-7 following valid-from valid-length byte-order-mark forms edition-0-1 form-of-word form-of-kind arity-of find core-of first-unknown first-refused store finish several term token opening closing atom word natural declaration-kind name bare tagged known beginning-on beginning body declared declaration onwards declarations edition-of supported surface-line module-line head read-module parsing reading loading load digits decimal listing first-line row-lines row-line row-fields kind-word numbers declaration-lines declaration-line declaration-word declaration-rows listing-text program-text
 example-printed = refl

@@ -14,12 +14,13 @@ use Rattle.terms.specs.Label.{Declaration}
 use Rattle.terms.specs.Resolution.{resolve-module}
 use Rattle.terms.specs.Rows.{pad, joined, core-rows, declaration-records}
 use Rattle.terms.proofs.Tables.{Wide}
-use Rattle.terms.proofs.Widths.{wide-core, wide-records, total, total-core, count-records}
+use Rattle.terms.proofs.Widths.{wide-core, wide-records, total, total-surface, total-core, count-records}
 use Rattle.surface.specs.Reader.{Position, start, Result, done, refused}
 use Rattle.surface.specs.Loading.{Lengths, Outcome, outcome, loading, load}
 use Rattle.surface.proofs.Acceptance.{is-loaded, is-read}
 use Rattle.lines.proofs.Lengths.{level, sum, listing-short, refusal-short}
-use Rattle.listing.specs.Program.{lent, text-of, program-text, Written}
+use Rattle.lister.specs.Lists.{text-of, listing-text}
+use Rattle.listing.specs.Program.{lent, program-text, Written}
 use Rattle.listing.specs.Promises.{EveryTextFits}
 use Rattle.listing.proofs.Atoms.{term-bytes, name-bytes, atoms-inside}
 use Rattle.listing.proofs.Shown.{sum-of, sum-at, row-level, word-at, module-level, record-name, module-names}
@@ -48,7 +49,7 @@ named l wide n room = sum-at (λ j. getD (pad n (joined l)) (j * 5 + 2) 0) recor
 -- The text of what loading leaves, whatever is lent.
 module _ (s : List ℕ) (z : Lengths) (few-rows : z .core / 8 ≤ 1024) (few-declarations : z .declarations / 5 ≤ 256) where
   abbrev text : Result (List Declaration) → List ℕ
-  text r = text-of s (outcome s z r .answer) (outcome s z r)
+  text r = text-of s (outcome s z r .answer) (outcome s z r .tables .core) (outcome s z r .tables .declarations)
 
   fits : (r : Result (List Declaration)) → loading s z start ≡ r → length (text r) ≤ 262144
   fits (refused r) e = omega (arith, refusal-short r)
@@ -61,7 +62,7 @@ module _ (s : List ℕ) (z : Lengths) (few-rows : z .core / 8 ≤ 1024) (few-dec
       let many : length ds ≡ length records = sym (count-records s [] 0 ds) in
       let levels : sum (λ j. level (pad (z .core) (joined rows)) (j * 8)) (p .rows) 0 ≡ sum-of row-level rows =
       ap (λ n. sum (λ j. level (pad (z .core) (joined rows)) (j * 8)) n 0) count
-      ∙ shown rows (wide-core 0 resolved) (z .core) (omega (arith, read .rows, read .enough .core)) in
+      ∙ shown rows (wide-core 0 resolved) (z .core) (omega (arith, read .rows, total-surface 0 ds, read .enough .core)) in
       let names : sum (λ j. getD (pad (z .declarations) (joined records)) (j * 5 + 2) 0) (length ds) 0 ≡ sum-of record-name records =
       ap (λ n. sum (λ j. getD (pad (z .declarations) (joined records)) (j * 5 + 2) 0) n 0) many
       ∙ named records (wide-records 0 resolved) (z .declarations) (omega (arith, read .enough .declarations)) in
@@ -75,12 +76,13 @@ module _ (s : List ℕ) (z : Lengths) (few-rows : z .core / 8 ≤ 1024) (few-dec
         atoms-inside s ds (read .readable .derives),
         read .readable .short,
         read .rows,
+        total-surface 0 ds,
         read .enough .core,
         read .enough .declarations,
       )
 
 pub every-text-fits : EveryTextFits
-unfolding program-text load
+unfolding program-text listing-text load
 every-text-fits s = fits s lent (leb-true (8192 / 8) 1024 refl) (leb-true (1280 / 5) 256 refl) (loading s lent start) refl
 
 -- So what `list` answers is within a buffer of that length.

@@ -1,4 +1,3 @@
-mod Text
 mod Steps
 pub mod Example
 mod Atoms

@@ -3,22 +3,16 @@ use mathlib.Core.Path.{_≡_}
 use mathlib.Core.List.{List}
 use Prim.Native.Nat.{ℕ}
 use lib.ListN.{length}
-use Rattle.surface.specs.declared.Answer.{Answer}
-use Rattle.surface.specs.Loading.{Lengths, Outcome, load}
+use Rattle.surface.specs.Tables.{Lengths}
 use Rattle.text.specs.Text.{with-text, length-in}
-use Rattle.lines.specs.Listing.{listing, refusal-line}
+use Rattle.lister.specs.Lists.{listing-text}
 
 -- "It lends 1,024 rows to each row table, 256 declarations and a work area of 16,384 words."
 abbrev pub lent : Lengths
 lent = record { surface = 8192; core = 8192; declarations = 1280; work = 16384 }
 
--- The listing of an accepted source, or the refusal.
-abbrev pub text-of : List ℕ → Answer → Outcome → List ℕ
-text-of s (Answer.Loaded rows declarations) o = listing s (o .tables .core) (o .tables .declarations) rows declarations
-text-of s (Answer.Refused r) o = refusal-line r
-
 unfoldable pub program-text : List ℕ → List ℕ
-program-text s = text-of s (load s lent .answer) (load s lent)
+program-text s = listing-text s lent
 
 -- The text stands at the beginning of the buffer, and the answer is its length.
 unfoldable pub Written : List ℕ → List ℕ → ℕ → List ℕ → Type 0

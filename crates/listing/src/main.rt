@@ -5,7 +5,6 @@ ghost use Rattle.listing.specs.Program.{Written};
 use standard::Input;
 use standard::read_input;
 use standard::write_output;
-use surface::Answer;
 
 // "It lends 1,024 rows to each row table, 256 declarations and a work area of 16,384 words."
 fn list(s: &[u8], text: &mut [u8]) -> usize
@@ -15,14 +14,15 @@ fn list(s: &[u8], text: &mut [u8]) -> usize
     let mut core = [0u32; 8192];
     let mut declarations = [0u32; 1280];
     let mut work = [0u32; 16384];
-    let answer = loader::load(s, &mut surface, &mut core, &mut declarations, &mut work);
-    match answer {
-        Answer::Refused(refusal) => lines::put_refusal(refusal, text),
-        Answer::Loaded {
-            rows,
-            declarations: count,
-        } => lines::put_listing(s, &core, &declarations, rows, count, text),
-    }
+    let listed = lister::list(
+        s,
+        &mut surface,
+        &mut core,
+        &mut declarations,
+        &mut work,
+        text,
+    );
+    listed.length
 }
 
 // The text's buffer has room for every text (`EveryTextFits`), so that no test is needed.

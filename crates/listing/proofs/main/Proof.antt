@@ -45,6 +45,9 @@ fail-requires c κs = search needs
 returns : tie.Need-returns
 returns c = search needs
 
+returns-2 : tie.Need-returns-2
+returns-2 c = search needs
+
 pub main-spec : {M : Type 1} → statement M
 main-spec =
     tie.close
