@@ -32,7 +32,7 @@
    former content.
 
    What is promised. A function returns, and the answer and every word of every table are what a definition says
-   (crates/sulyterom/src/lib.rt has the promises, each proved). It allocates nothing, writes nothing but the tables
+   (crates/sulyterom/src has the promises, each proved). It allocates nothing, writes nothing but the tables
    lent to it, and keeps nothing between calls: tables can be lent again and again, and threads can load at the same
    time into tables of their own. A call takes less than SULYTEROM_STACK_BYTES of stack, whatever the source. */
 #ifndef SULYTEROM_H

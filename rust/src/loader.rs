@@ -19,13 +19,15 @@ use crate::{Comparison, Dependence, Listing, Loaded, Refusal, Tables, library};
 pub struct Loader {
     tables: Tables,
     others: Tables,
+    /// Whether a source needed more than sources of its length are likely to: the next may be of that kind too.
+    dense: bool,
 }
 
 impl Loader {
     /// A loader that has no tables yet.
     #[must_use]
     pub const fn new() -> Self {
-        Self { tables: Tables::empty(), others: Tables::empty() }
+        Self { tables: Tables::empty(), others: Tables::empty(), dense: false }
     }
 
     /// Loads a source, as [`load`](crate::load) does.
@@ -34,16 +36,16 @@ impl Loader {
     ///
     /// A [`Refusal`] that stands for every size of tables: class 1 to 7.
     pub fn load<'a>(&'a mut self, source: &'a [u8]) -> Result<Loaded<'a>, Refusal> {
-        let tables = &mut self.tables;
-        let told = enough([source.len()], |[sizes]| library::load(source, tables.grown(sizes)));
+        let (tables, dense) = (&mut self.tables, &mut self.dense);
+        let told = enough(dense, [source.len()], |[sizes]| library::load(source, tables.grown(sizes)));
         Loaded::told(source, tables, told)
     }
 
     /// Gives a source's listing, as [`list`](crate::list) does.
     pub fn list(&mut self, source: &[u8]) -> Listing {
-        let tables = &mut self.tables;
+        let (tables, dense) = (&mut self.tables, &mut self.dense);
         Listing::with_room(crate::room(source), |text| {
-            enough([source.len()], |[sizes]| library::list(source, tables.grown(sizes), text))
+            enough(dense, [source.len()], |[sizes]| library::list(source, tables.grown(sizes), text))
         })
     }
 
@@ -53,15 +55,15 @@ impl Loader {
     ///
     /// A [`Refusal`] of class 1 to 7 or 12.
     pub fn depends<'a>(&'a mut self, source: &'a [u8], i: usize, j: usize) -> Result<Dependence<'a>, Refusal> {
-        let tables = &mut self.tables;
-        let told = enough([source.len()], |[sizes]| library::depends(source, i, j, tables.grown(sizes)));
+        let (tables, dense) = (&mut self.tables, &mut self.dense);
+        let told = enough(dense, [source.len()], |[sizes]| library::depends(source, i, j, tables.grown(sizes)));
         Dependence::told(source, tables, told)
     }
 
     /// Asks whether two sources leave the same core, as [`same`](crate::same) does.
     pub fn same(&mut self, first: &[u8], second: &[u8]) -> Comparison {
-        let (tables, others) = (&mut self.tables, &mut self.others);
-        let (class, answer) = enough([first.len(), second.len()], |[one, other]| {
+        let (tables, others, dense) = (&mut self.tables, &mut self.others, &mut self.dense);
+        let (class, answer) = enough(dense, [first.len(), second.len()], |[one, other]| {
             library::same(first, second, tables.grown(one), others.grown(other))
         });
         Comparison::from_numbers(class, answer)
@@ -75,10 +77,17 @@ impl Default for Loader {
 }
 
 /// Asks with the sizes that sources of these lengths are likely to need and, where a table is too short, once more with
-/// the most that they can need.
-fn enough<const N: usize, T>(bytes: [usize; N], mut ask: impl FnMut([Sizes; N]) -> (u8, T)) -> (u8, T) {
-    match ask(bytes.map(Sizes::likely)) {
-        (8..=10, _) => ask(bytes.map(Sizes::most)),
-        told => told,
+/// the most that they can need; from then on at once with these.
+fn enough<const N: usize, T>(
+    dense: &mut bool,
+    bytes: [usize; N],
+    mut ask: impl FnMut([Sizes; N]) -> (u8, T),
+) -> (u8, T) {
+    if !*dense {
+        match ask(bytes.map(Sizes::likely)) {
+            (8..=10, _) => *dense = true,
+            told => return told,
+        }
     }
+    ask(bytes.map(Sizes::most))
 }

@@ -1,4 +1,4 @@
--- What the question answers and leaves, from what loading leaves. Assumes nothing.
+-- What the question answers and leaves, from what loading leaves.
 use mathlib.Core.Path.{_≡_, refl, sym, ap, _∙_, subst}
 use mathlib.Core.Bool.{Bool, true, false, _&&_, and-eq-true-iff}
 use mathlib.Core.List.{List, []}

@@ -1,4 +1,4 @@
--- The search finds a row exactly where the definition of dependence has one. Assumes nothing.
+-- The search finds a row exactly where the definition of dependence has one.
 use mathlib.Core.Path.{_≡_, refl, sym, ap, _∙_, subst}
 use mathlib.Core.Bool.{Bool, true, false, _&&_, false≢true, and-eq-true-iff}
 use mathlib.Core.List.{List, [], _∷_}

@@ -1,4 +1,4 @@
--- The rows of a declaration are those from its first row up to the row behind it. Assumes nothing.
+-- The rows of a declaration are those from its first row up to the row behind it.
 use mathlib.Core.Path.{_≡_, refl, sym, ap, _∙_, subst}
 use mathlib.Core.Logic.{inl, inr}
 use mathlib.Core.List.{List, [], _∷_, _++_, map}

@@ -1,4 +1,4 @@
--- The search in a core table, step by step. Assumes nothing.
+-- The search in a core table, step by step.
 use mathlib.Core.Path.{_≡_, refl, ap, _∙_}
 use mathlib.Core.Bool.{Bool, true, false, _&&_}
 use mathlib.Core.List.{List}

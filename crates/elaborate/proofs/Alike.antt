@@ -1,4 +1,4 @@
--- Resolution looks at a label's kind, and at its start and length only where the kind has a span. Assumes nothing.
+-- Resolution looks at a label's kind, and at its start and length only where the kind has a span.
 use Prim.Native.Nat.{ℕ}
 use mathlib.Core.Path.{_≡_, refl, sym, _∙_, ap, ap₂}
 use mathlib.Core.List.{List, [], _∷_, _++_}

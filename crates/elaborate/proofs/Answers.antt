@@ -1,4 +1,4 @@
--- From the answers for a term to those for a declaration. Assumes nothing.
+-- From the answers for a term to those for a declaration.
 use Prim.Native.Nat.{ℕ, _*_, _/_, _≤_}
 use mathlib.Core.Path.{_≡_, refl, sym, ap, ap₂, subst}
 use mathlib.Core.List.{List, []}

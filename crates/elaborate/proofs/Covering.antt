@@ -1,4 +1,4 @@
--- Which arguments a binder covers, by kind. Assumes nothing.
+-- Which arguments a binder covers, by kind.
 use Prim.Native.Nat.{ℕ}
 use mathlib.Core.Path.{_≡_, refl, sym, _∙_, ap}
 use mathlib.Core.Logic.{_⊎_, inl, inr}

@@ -1,4 +1,4 @@
--- Rows that are stored: of a reference, and of a form whose arguments are the values on top. Assumes nothing.
+-- Rows that are stored: of a reference, and of a form whose arguments are the values on top.
 use Prim.Native.Nat.{ℕ, zero, suc, _+_, _-_, _≤_}
 use mathlib.Core.Path.{_≡_, refl, sym, _∙_, ap, subst}
 use mathlib.Core.List.{List, [], _∷_, _++_}

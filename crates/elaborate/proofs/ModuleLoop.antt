@@ -1,4 +1,4 @@
--- The loop of `elaborate_surface`: what all declarations come to is what the rest comes to. Assumes nothing.
+-- The loop of `elaborate_surface`: what all declarations come to is what the rest comes to.
 use Prim.Native.Nat.{ℕ, _+_, _*_, _≤_, _<_}
 use mathlib.Core.Path.{_≡_, refl, sym, _∙_, ap, ap₂, subst}
 use mathlib.Core.List.{List, [], _∷_, _++_, map}

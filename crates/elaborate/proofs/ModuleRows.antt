@@ -1,4 +1,4 @@
--- Declarations held by the tables from a place and a row on, and what each comes to. Assumes nothing.
+-- Declarations held by the tables from a place and a row on, and what each comes to.
 use Prim.Native.Nat.{ℕ, zero, suc, _+_, _*_, _≤_, _<_}
 use mathlib.Core.Path.{_≡_, refl, sym, _∙_, ap, ap₂, subst}
 use mathlib.Core.List.{List, [], _∷_, _++_, map}

@@ -1,4 +1,4 @@
--- A resolved tree has the rows of the tree it comes from, and a module's core records are those that were read. Assumes nothing.
+-- A resolved tree has the rows of the tree it comes from, and a module's core records are those that were read.
 use Prim.Native.Nat.{ℕ, _≤_}
 use mathlib.Core.Path.{_≡_, refl, sym, _∙_, ap}
 use mathlib.Core.List.{List, [], _∷_, _++_}

@@ -1,4 +1,4 @@
--- The room that a form's arguments take, and that they are less to do than the form. Assumes nothing.
+-- The room that a form's arguments take, and that they are less to do than the form.
 use Prim.Native.Nat.{ℕ, zero, suc, _+_, _-_, _*_, _≤_, _<_}
 use mathlib.Core.Path.{_≡_, refl, _∙_, ap, subst}
 use mathlib.Core.List.{List, [], _∷_}

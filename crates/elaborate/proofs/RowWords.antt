@@ -1,4 +1,4 @@
--- What a row of the surface table says of its term. Assumes nothing.
+-- What a row of the surface table says of its term.
 use Prim.Native.Nat.{ℕ, zero, suc, _+_, _*_, _≤_, _<_}
 use mathlib.Core.Path.{_≡_, refl, sym, _∙_, ap}
 use mathlib.Core.List.{List, [], _∷_, _++_}

@@ -1,4 +1,4 @@
--- What work items come to: an argument's, a form's, and one that ends in a row. Assumes nothing.
+-- What work items come to: an argument's, a form's, and one that ends in a row.
 use Prim.Native.Nat.{ℕ, zero, suc, _+_, _-_, _*_}
 use mathlib.Core.Path.{_≡_, refl, sym, _∙_, ap, ap₂}
 use mathlib.Core.List.{List, [], _∷_, _++_, append-assoc, append-nil}

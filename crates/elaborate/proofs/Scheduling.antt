@@ -1,4 +1,4 @@
--- A form's arguments pushed as work items, the last first. Assumes nothing.
+-- A form's arguments pushed as work items, the last first.
 use Prim.Native.Nat.{ℕ, suc, _+_, _-_, _≤_, _<_}
 use mathlib.Core.Path.{_≡_, refl, sym, _∙_, ap, ap₂}
 use mathlib.Core.List.{List, [], _∷_}

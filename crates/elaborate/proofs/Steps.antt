@@ -1,4 +1,4 @@
--- Each work item's step: it comes to the same, there is less to do, and room for it. Assumes nothing.
+-- Each work item's step: it comes to the same, there is less to do, and room for it.
 use Prim.Native.Nat.{ℕ, zero, suc, _+_, _-_, _*_, _≤_, _<_}
 use mathlib.Core.Path.{_≡_, refl, sym, _∙_, ap, ap₂, subst}
 use mathlib.Core.List.{List, [], _∷_, _++_}

@@ -1,4 +1,4 @@
--- Rows read from a table place by place, and rows stored one behind the other. Assumes nothing.
+-- Rows read from a table place by place, and rows stored one behind the other.
 use Prim.Native.Nat.{ℕ, suc, _+_, _-_, _*_, _/_, _≤_, _<_}
 use mathlib.Core.Path.{_≡_, refl, sym, _∙_, ap}
 use mathlib.Core.List.{List, [], _∷_, _++_, append-assoc, append-nil}

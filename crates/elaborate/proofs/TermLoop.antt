@@ -1,4 +1,4 @@
--- The loop of `elaborate_term`: the whole outcome is what the state and the tables come to. Assumes nothing.
+-- The loop of `elaborate_term`: the whole outcome is what the state and the tables come to.
 use Prim.Native.Nat.{ℕ, _+_, _≤_}
 use mathlib.Core.Path.{_≡_, refl, sym, _∙_, ap, subst}
 use mathlib.Core.List.{List, [], _∷_}

@@ -1,4 +1,4 @@
--- On the rows of trees, the recursion over rows is the resolution of the trees. Assumes nothing.
+-- On the rows of trees, the recursion over rows is the resolution of the trees.
 use Prim.Native.Nat.{ℕ, zero, suc, _+_, _≤_, _<_}
 use mathlib.Core.Path.{_≡_, refl, sym, _∙_, ap, ap₂, subst}
 use mathlib.Core.List.{List, _∷_, _++_, map, map-append, append-assoc}

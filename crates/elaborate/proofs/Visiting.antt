@@ -1,4 +1,4 @@
--- What a row's resolution comes to, case by case. Assumes nothing.
+-- What a row's resolution comes to, case by case.
 use Prim.Native.Nat.{ℕ, zero, suc, _*_}
 use mathlib.Core.Path.{_≡_, refl, _∙_, ap}
 use mathlib.Core.List.{List, []}

@@ -1,4 +1,4 @@
--- The resolution of a declaration by its record: what `declaration_step` comes to. Assumes nothing.
+-- The resolution of a declaration by its record: what `declaration_step` comes to.
 -- Only contracts of private functions cite this; that it is the resolution of the declaration is proved.
 use Prim.Native.Nat.{ℕ, _+_, _*_, _≤_}
 use mathlib.Core.Path.{_≡_}

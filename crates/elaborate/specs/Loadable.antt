@@ -1,4 +1,4 @@
--- What `elaborate_surface` is given, and what it leaves: the rows and records of the declarations read, and their core rows. Assumes nothing.
+-- What `elaborate_surface` is given, and what it leaves: the rows and records of the declarations read, and their core rows.
 use Prim.Native.Nat.{ℕ, zero, suc, _*_, _≤_}
 use mathlib.Core.Path.{_≡_}
 use mathlib.Core.List.{List, [], _∷_}

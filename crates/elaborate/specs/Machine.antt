@@ -1,4 +1,4 @@
--- The stack of work items of `elaborate_term`: what it comes to, the room that it takes, and how long it goes on. Assumes nothing.
+-- The stack of work items of `elaborate_term`: what it comes to, the room that it takes, and how long it goes on.
 -- Only contracts of private functions cite this.
 use Prim.Native.Nat.{ℕ, zero, suc, _+_, _-_, _*_, _≤_, _<_}
 use mathlib.Core.Path.{_≡_}

@@ -1,4 +1,4 @@
--- The resolution of a term by a plain recursion over its rows: what `elaborate_term` comes to. Assumes nothing.
+-- The resolution of a term by a plain recursion over its rows: what `elaborate_term` comes to.
 -- Only contracts of private functions cite this; that it is the resolution of the tree is proved.
 use Prim.Native.Nat.{ℕ, zero, suc, _+_, _*_}
 use mathlib.Core.List.{List, [], _∷_}

@@ -1,4 +1,4 @@
--- What is read stands behind the position where it was asked for and within the source, and keeps the count of rows. Assumes nothing.
+-- What is read stands behind the position where it was asked for and within the source, and keeps the count of rows.
 use Prim.Native.Nat.{ℕ, _≤_, _<_}
 use mathlib.Core.Path.{_≡_, refl, sym, _∙_, ap, subst}
 use mathlib.Core.Bool.{Bool, false, not, false≢true}

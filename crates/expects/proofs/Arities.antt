@@ -1,4 +1,4 @@
--- The arities of the forms, by their shapes. Assumes nothing.
+-- The arities of the forms, by their shapes.
 use Prim.Native.Nat.{ℕ, _≤_}
 use mathlib.Core.Path.{_≡_, refl}
 use mathlib.Core.Bool.{Bool, true, false, _&&_, false≢true}

@@ -1,4 +1,4 @@
--- What a term begins with stands ahead, and has as many arguments as its kind. Assumes nothing.
+-- What a term begins with stands ahead, and has as many arguments as its kind.
 use Prim.Native.Nat.{ℕ, _≤_}
 use mathlib.Core.Path.{_≡_, refl, sym, _∙_, ap}
 use mathlib.Core.List.{List}

@@ -1,4 +1,4 @@
--- What each format's tests are in the code. Assumes nothing.
+-- What each format's tests are in the code.
 use Prim.Native.Nat.{ℕ}
 use mathlib.Core.Path.{_≡_}
 use mathlib.Core.List.{List}

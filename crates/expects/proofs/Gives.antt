@@ -1,4 +1,4 @@
--- What holds of whatever a reader gives, step by step. Assumes nothing.
+-- What holds of whatever a reader gives, step by step.
 use mathlib.Core.Path.{_≡_, refl, subst}
 use mathlib.Core.Bool.{Bool, true, false}
 use Rattle.token.specs.declared.Refusal.{Refusal}

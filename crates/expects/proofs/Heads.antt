@@ -1,4 +1,4 @@
--- The head stands ahead, and its name within the source. Assumes nothing.
+-- The head stands ahead, and its name within the source.
 use Prim.Native.Nat.{ℕ}
 use mathlib.Core.Path.{_≡_, _∙_, ap}
 use mathlib.Core.List.{List}

@@ -1,4 +1,4 @@
--- The form and the declaration's kind of a word, by its index among the reserved words. Assumes nothing.
+-- The form and the declaration's kind of a word, by its index among the reserved words.
 use Prim.Native.Nat.{ℕ, zero, suc, _+_, _*_, _-_, _/_, _%_, _^_, _≤_, _<_}
 use mathlib.Core.Path.{_≡_, refl, sym, _∙_, ap}
 use mathlib.Core.Bool.{Bool, true, false, _&&_}

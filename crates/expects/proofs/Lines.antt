@@ -1,4 +1,4 @@
--- What the lines of the head give, by what their parts give. Assumes nothing.
+-- What the lines of the head give, by what their parts give.
 use Prim.Native.Nat.{ℕ}
 use mathlib.Core.Path.{_≡_, refl, sym, _∙_, ap}
 use mathlib.Core.Bool.{true, false}

@@ -1,4 +1,4 @@
--- The form that the three numbers of a word stand for. Assumes nothing.
+-- The form that the three numbers of a word stand for.
 use Prim.Native.Nat.{ℕ}
 use mathlib.Core.Path.{_≡_, refl, sym, _∙_, ap}
 use mathlib.Core.Bool.{cond}

@@ -1,4 +1,4 @@
--- What a term begins with, by what its parts give. Assumes nothing.
+-- What a term begins with, by what its parts give.
 use Prim.Native.Nat.{ℕ}
 use mathlib.Core.Path.{_≡_, refl, sym, _∙_, ap}
 use mathlib.Core.List.{List}

@@ -1,4 +1,4 @@
--- What the readers of one token give, by the token that stands next. Assumes nothing.
+-- What the readers of one token give, by the token that stands next.
 use Prim.Native.Nat.{ℕ, _+_, _<_}
 use mathlib.Core.Path.{_≡_, refl, sym, _∙_, ap}
 use mathlib.Core.Bool.{Bool, true, false, not, cond}

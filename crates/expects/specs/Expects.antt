@@ -1,4 +1,4 @@
--- What must stand next: the answers of the code beside the readers of `surface`. Assumes nothing.
+-- What must stand next: the answers of the code beside the readers of `surface`.
 use mathlib.Core.Path.{_≡_}
 use mathlib.Core.List.{List}
 use Prim.Native.Nat.{ℕ, _≤_}

@@ -1,4 +1,4 @@
--- The form of a word as three numbers: how the answer of the code is read. Assumes nothing.
+-- The form of a word as three numbers: how the answer of the code is read.
 use mathlib.Core.Option.{Option, none, some}
 use mathlib.Core.List.{[], _∷_}
 use Prim.Native.Nat.{ℕ}

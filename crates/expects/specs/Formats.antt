@@ -1,4 +1,4 @@
--- The formats that are read. What differs between them is said by an edition: the forms and the reserved words. Assumes nothing.
+-- The formats that are read. What differs between them is said by an edition: the forms and the reserved words.
 use mathlib.Core.Bool.{cond}
 use mathlib.Core.List.{List}
 use Prim.Native.Nat.{ℕ}

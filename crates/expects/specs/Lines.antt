@@ -1,4 +1,4 @@
--- The parts of the head that have functions of their own. Assumes nothing.
+-- The parts of the head that have functions of their own.
 use mathlib.Core.Path.{_≡_}
 use mathlib.Core.Bool.{Bool, _&&_}
 use mathlib.Core.List.{List}

@@ -1,4 +1,4 @@
--- The parts of a term's beginning that have functions of their own. Assumes nothing.
+-- The parts of a term's beginning that have functions of their own.
 use mathlib.Core.Path.{_≡_}
 use mathlib.Core.List.{List}
 use Prim.Native.Nat.{ℕ, _-_, _≤_, _<_}

@@ -1,4 +1,4 @@
--- Tokens by the number of their kind, and their place in a source. Assumes nothing.
+-- Tokens by the number of their kind, and their place in a source.
 use mathlib.Core.Path.{_≡_}
 use mathlib.Core.List.{List}
 use Prim.Native.Nat.{ℕ, _≤_}

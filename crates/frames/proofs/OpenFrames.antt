@@ -1,4 +1,4 @@
--- The open frames after one more was opened, and after the last took an argument. Assumes nothing.
+-- The open frames after one more was opened, and after the last took an argument.
 use Prim.Native.Nat.{ℕ, zero, suc, _+_, _*_, _≤_, _<_}
 use mathlib.Core.Path.{_≡_, refl, sym, ap, ap₂, _∙_}
 use mathlib.Core.List.{List, [], _∷_, _++_}

@@ -1,4 +1,4 @@
--- Open frames as words of the work area: eleven words a frame, from word 0 on. Assumes nothing.
+-- Open frames as words of the work area: eleven words a frame, from word 0 on.
 use Prim.Native.Nat.{ℕ, zero, suc, _+_, _*_, _≤_}
 use mathlib.Core.List.{List, [], _∷_}
 use lib.ListN.{length, getD, take, set}

@@ -1,4 +1,4 @@
--- Document 01, "a record that refers to the source and holds a position": how the position moves. Assumes nothing.
+-- Document 01, "a record that refers to the source and holds a position": how the position moves.
 use Prim.Native.Nat.{ℕ}
 use mathlib.Core.List.{List}
 use Rattle.token.specs.Token.{next-token}

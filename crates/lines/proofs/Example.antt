@@ -1,4 +1,4 @@
--- Listings that document 01's example does not show: digits, a body, and a refusal with and without an offset. Assumes nothing.
+-- Listings that document 01's example does not show: digits, a body, and a refusal with and without an offset.
 use mathlib.Core.Path.{_≡_, refl}
 use mathlib.Core.List.{[], _∷_}
 use Rattle.token.specs.declared.Place.the-variants.{At, Nowhere}

@@ -1,4 +1,4 @@
--- The table of the kinds agrees with the definitions, by one computed test. Assumes nothing.
+-- The table of the kinds agrees with the definitions, by one computed test.
 use Prim.Native.Nat.{ℕ, zero, suc, _+_, _≤_, _<_}
 use mathlib.Core.Path.{_≡_, refl}
 use mathlib.Core.Bool.{Bool, true, false, _&&_}

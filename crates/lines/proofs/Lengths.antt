@@ -1,4 +1,4 @@
--- How long the lines of a listing can be. Assumes nothing.
+-- How long the lines of a listing can be.
 use Prim.Native.Nat.{ℕ, zero, suc, _+_, _*_, _/_, _%_, _≤_}
 use mathlib.Core.Path.{_≡_, refl}
 use mathlib.Core.Bool.{Bool, true, false, _||_, cond}

@@ -1,4 +1,4 @@
--- Parts of a source and of a table that run past the end. Assumes nothing.
+-- Parts of a source and of a table that run past the end.
 use Prim.Native.Nat.{ℕ, _+_, _-_, _*_, _/_, _≤_, _<_}
 use mathlib.Core.Path.{_≡_, sym, ap, _∙_}
 use mathlib.Core.List.{List}

@@ -1,4 +1,4 @@
--- What a row's line and a declaration's line say, read from the table that begins with the row. Assumes nothing.
+-- What a row's line and a declaration's line say, read from the table that begins with the row.
 use Prim.Native.Nat.{ℕ, zero, suc, _+_}
 use mathlib.Core.Path.{_≡_, refl, sym, _∙_}
 use mathlib.Core.Bool.{Bool, true, false, _||_}

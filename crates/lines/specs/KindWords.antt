@@ -1,4 +1,4 @@
--- The word of a kind and how many numbers stand behind it, as the code's table gives them. Assumes nothing.
+-- The word of a kind and how many numbers stand behind it, as the code's table gives them.
 use mathlib.Core.Bool.{true, false, _||_}
 use mathlib.Core.List.{List}
 use Prim.Native.Nat.{ℕ}

@@ -1,4 +1,4 @@
--- Document 01, "The listing": the text that is printed for a loaded source, and for a refusal. Assumes nothing.
+-- Document 01, "The listing": the text that is printed for a loaded source, and for a refusal.
 use mathlib.Core.List.{List, [], _∷_, _++_}
 use mathlib.Core.Option.{Option, none, some}
 use mathlib.Core.Bool.{Bool, true, false, _||_, cond}

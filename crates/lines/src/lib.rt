@@ -276,7 +276,7 @@ fn put_place(place: Place, out: &mut [u8], at: usize) -> usize
 }
 
 // The line of a refusal.
-pub fn put_refusal_at(refusal: Refusal, out: &mut [u8], at: usize) -> usize
+fn put_refusal_at(refusal: Refusal, out: &mut [u8], at: usize) -> usize
     ensures { λ r. ⌜ now (out .exit) ≡ sets (now (out .entry)) at (refusal-line refusal) ⌝ }
     ensures { λ r. ⌜ r ≡ length-in (now (out .entry)) (at + length (refusal-line refusal)) ⌝ }
 {

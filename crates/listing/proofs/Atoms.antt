@@ -1,4 +1,4 @@
--- The names and numerals of a module are parts of its source that do not overlap: together they are no longer than it. Assumes nothing.
+-- The names and numerals of a module are parts of its source that do not overlap: together they are no longer than it.
 use Prim.Native.Nat.{ℕ, _+_, _-_, _≤_}
 use mathlib.Core.Path.{_≡_, refl, subst}
 use mathlib.Core.List.{List, [], _∷_}

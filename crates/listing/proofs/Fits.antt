@@ -1,5 +1,5 @@
 -- The text of every source fits the program's buffer: 1,024 rows and 256 declarations take at most so many bytes beside what they show of
--- the source, and they show each byte of it at most once. Assumes nothing.
+-- the source, and they show each byte of it at most once.
 use Prim.Native.Nat.{ℕ, _+_, _*_, _/_, _%_, _≤_, _<_}
 use mathlib.Core.Path.{_≡_, refl, sym, _∙_, ap}
 use mathlib.Core.Bool.{cond}

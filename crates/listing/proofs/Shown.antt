@@ -1,4 +1,4 @@
--- How many bytes of the source the rows and records of a module show. Assumes nothing.
+-- How many bytes of the source the rows and records of a module show.
 use Prim.Native.Nat.{ℕ, zero, suc, _+_, _*_, _≤_, _<_}
 use mathlib.Core.Path.{_≡_, refl, _∙_, ap}
 use mathlib.Core.Bool.{Bool, true, false, cond}

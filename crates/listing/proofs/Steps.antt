@@ -1,4 +1,4 @@
--- A step that went to an offset lies within, since its contract says so of every step. Assumes nothing.
+-- A step that went to an offset lies within, since its contract says so of every step.
 use mathlib.Core.Path.{_≡_, subst}
 use Prim.Native.Nat.{ℕ, _≤_}
 use Rattle.listing.specs.declared.standard.Step.{Step}

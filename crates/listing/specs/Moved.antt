@@ -1,4 +1,4 @@
--- What calls of read and write moved. Assumes nothing.
+-- What calls of read and write moved.
 use Prim.Native.Nat.{ℕ, _≤_}
 use Rattle.listing.specs.declared.standard.Step.{Step}
 use Rattle.listing.specs.declared.standard.Input.{Input}

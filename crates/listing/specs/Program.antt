@@ -1,4 +1,4 @@
--- Document 01, "The listing": what the program writes for a source. Assumes nothing.
+-- Document 01, "The listing": what the program writes for a source.
 use mathlib.Core.Path.{_≡_}
 use mathlib.Core.List.{List}
 use Prim.Native.Nat.{ℕ}

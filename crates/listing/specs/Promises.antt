@@ -1,4 +1,4 @@
--- What is promised of the listing beside the contract of `list`; `Example` and `Fits` in proofs/ show it. Assumes nothing.
+-- What is promised of the listing beside the contract of `list`; `Example` and `Fits` in proofs/ show it.
 use mathlib.Core.Path.{_≡_}
 use mathlib.Core.List.{List}
 use Prim.Native.Nat.{ℕ, _≤_}

@@ -1,4 +1,4 @@
--- A table that is cleared behind what was stored is what was stored, with 0 behind it. Assumes nothing.
+-- A table that is cleared behind what was stored is what was stored, with 0 behind it.
 use Prim.Native.Nat.{ℕ, zero, suc, _-_, _≤_}
 use mathlib.Core.Path.{_≡_, refl, sym, ap, ap₂, _∙_}
 use mathlib.Core.List.{List, [], _∷_, _++_}

@@ -1,4 +1,4 @@
--- What parsing stores stands at the beginning of the tables. Assumes nothing.
+-- What parsing stores stands at the beginning of the tables.
 use mathlib.Core.Path.{_≡_, sym, ap, _∙_}
 use mathlib.Core.List.{List, []}
 use Prim.Native.Nat.{ℕ, _+_, _*_, _/_, _≤_}

@@ -1,4 +1,4 @@
--- What loading leaves, from what it stores: the tables are cleared behind it. Assumes nothing.
+-- What loading leaves, from what it stores: the tables are cleared behind it.
 use mathlib.Core.Path.{_≡_, refl, sym, ap, ap₂, _∙_}
 use mathlib.Core.List.{List, []}
 use Prim.Native.Nat.{ℕ, _*_, _/_, _≤_}

@@ -1,4 +1,4 @@
--- Parsing and loading, test by test. Assumes nothing.
+-- Parsing and loading, test by test.
 use mathlib.Core.Path.{_≡_, refl, sym, ap, subst}
 use mathlib.Core.Bool.{Bool, true, false, not}
 use mathlib.Core.List.{List, []}

@@ -1,4 +1,4 @@
--- From the answer of resolution to the answer of loading. Assumes nothing.
+-- From the answer of resolution to the answer of loading.
 use mathlib.Core.Path.{_≡_, sym, ap, _∙_}
 use mathlib.Core.List.{List}
 use mathlib.Core.Option.{Option, none, some}

@@ -1,4 +1,4 @@
--- The number and values of what `parse_surface` answers: by its promise they are what reading gives. Assumes nothing.
+-- The number and values of what `parse_surface` answers: by its promise they are what reading gives.
 use mathlib.Core.Path.{_≡_, refl, ap, _∙_}
 use mathlib.Core.List.{List}
 use Prim.Native.Nat.{ℕ}

@@ -1,4 +1,4 @@
--- From what parsing and resolution store to what loading stores. Assumes nothing.
+-- From what parsing and resolution store to what loading stores.
 use mathlib.Core.Path.{_≡_, refl, sym, ap, subst, _∙_}
 use mathlib.Core.List.{List, []}
 use mathlib.Core.Option.{Option, none, some}

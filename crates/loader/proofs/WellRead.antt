@@ -1,4 +1,4 @@
--- What is read is shaped, nested and bodied as resolution wants it. Assumes nothing.
+-- What is read is shaped, nested and bodied as resolution wants it.
 use mathlib.Core.Path.{_≡_, sym, _∙_, subst}
 use mathlib.Core.List.{List, [], _∷_, map}
 use mathlib.Core.Logic.{if-pos, if-neg, by-cases}

@@ -1,4 +1,4 @@
--- What a call of `load` is lent and leaves, by the words of each table. Assumes nothing.
+-- What a call of `load` is lent and leaves, by the words of each table.
 use mathlib.Core.List.{List}
 use Prim.Native.Nat.{ℕ}
 use Rattle.surface.specs.declared.Answer.{Answer}

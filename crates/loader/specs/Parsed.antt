@@ -1,4 +1,4 @@
--- What a call of `parse_surface` leaves: the module read, with no name looked at. Assumes nothing.
+-- What a call of `parse_surface` leaves: the module read, with no name looked at.
 use mathlib.Core.Path.{_≡_}
 use mathlib.Core.List.{List, [], _∷_}
 use Prim.Native.Nat.{ℕ}

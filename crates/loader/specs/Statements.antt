@@ -1,5 +1,5 @@
 -- A headline statement about calls of `parse_surface`; loader/proofs/Statements.antt has its proof, surface/specs/Statements.antt those about
--- `load`. Assumes nothing.
+-- `load`.
 use mathlib.Core.Path.{_≡_}
 use mathlib.Core.List.{List}
 use Prim.Native.Nat.{ℕ}

@@ -1,4 +1,4 @@
--- The rows that are stored when a term was read: one for each of its nodes. Assumes nothing.
+-- The rows that are stored when a term was read: one for each of its nodes.
 use mathlib.Core.Path.{_≡_, refl, _∙_, ap, subst}
 use mathlib.Core.Bool.{Bool, true, false}
 use Prim.Native.Nat.{ℕ, zero, suc}

@@ -1,4 +1,4 @@
--- Reading a term goes forward within the source, and stores at most one row for each byte that it passes. Assumes nothing.
+-- Reading a term goes forward within the source, and stores at most one row for each byte that it passes.
 use mathlib.Core.Path.{_≡_, refl}
 use mathlib.Core.List.{List}
 use mathlib.Core.Bool.{Bool, true, false}

@@ -1,4 +1,4 @@
--- The loop that reads a term: the whole answer is what reading comes to from the present state. Assumes nothing.
+-- The loop that reads a term: the whole answer is what reading comes to from the present state.
 use mathlib.Core.Path.{_≡_, refl, sym, _∙_, ap, subst}
 use mathlib.Core.List.{List}
 use mathlib.Core.Bool.{true, false, _&&_, and-eq-true-iff}

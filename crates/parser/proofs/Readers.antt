@@ -1,4 +1,4 @@
--- What is asked of the readers that the machine reads with, and what a whole term is then. Assumes nothing.
+-- What is asked of the readers that the machine reads with, and what a whole term is then.
 use mathlib.Core.Path.{_≡_}
 use mathlib.Core.List.{List}
 use Prim.Native.Nat.{ℕ}

@@ -1,4 +1,4 @@
--- Reading into rows, step by step: what a term begins with, one more argument, the closing parenthesis. Assumes nothing.
+-- Reading into rows, step by step: what a term begins with, one more argument, the closing parenthesis.
 use mathlib.Core.Path.{_≡_, refl, _∙_, ap}
 use mathlib.Core.List.{List, [], _∷_, _++_}
 use Prim.Native.Nat.{ℕ, zero, suc, _-_, _≤_, _<_}

@@ -1,4 +1,4 @@
--- One step of the frame reader, said of a state and the tables. Assumes nothing.
+-- One step of the frame reader, said of a state and the tables.
 use mathlib.Core.Path.{_≡_, refl, sym, _∙_, ap, subst}
 use mathlib.Core.List.{List, [], _∷_, _++_}
 use mathlib.Core.Bool.{Bool, true, false}

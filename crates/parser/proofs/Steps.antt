@@ -1,4 +1,4 @@
--- The steps of the frame reader, from what the functions that they call give. Assumes nothing.
+-- The steps of the frame reader, from what the functions that they call give.
 use mathlib.Core.Path.{_≡_, sym, _∙_, ap}
 use mathlib.Core.List.{List, [], _∷_, _++_}
 use mathlib.Core.Bool.{true, false}

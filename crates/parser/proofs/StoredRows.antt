@@ -1,4 +1,4 @@
--- Words stored behind words that were stored; and rows stored one behind the other are their words, where the table has a place for each. Assumes nothing.
+-- Words stored behind words that were stored; and rows stored one behind the other are their words, where the table has a place for each.
 use mathlib.Core.Path.{_≡_, sym, _∙_, ap, ap₂, subst}
 use mathlib.Core.List.{List, [], _∷_, _++_, map, append-assoc, append-nil}
 use Prim.Native.Nat.{ℕ, suc, _+_, _*_, _/_, _≤_}

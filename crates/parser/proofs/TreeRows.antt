@@ -1,4 +1,4 @@
--- Reading straight into rows gives the rows of the tree that the reading order gives. Assumes nothing.
+-- Reading straight into rows gives the rows of the tree that the reading order gives.
 use mathlib.Core.Path.{_≡_, refl, sym, _∙_, ap, ap₂, subst}
 use mathlib.Core.List.{List, [], _∷_, _++_, append-assoc, append-nil}
 use mathlib.Core.Bool.{Bool, true, false}

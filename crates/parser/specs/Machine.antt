@@ -1,4 +1,4 @@
--- The frame reader's states: what reading comes to from a state, what each step keeps, and the answer for a whole term. Assumes nothing.
+-- The frame reader's states: what reading comes to from a state, what each step keeps, and the answer for a whole term.
 use mathlib.Core.Path.{_≡_}
 use mathlib.Core.List.{List, [], _∷_}
 use mathlib.Core.Bool.{Bool, true, false, cond, _&&_}

@@ -1,5 +1,5 @@
 -- Terms read straight into a table of rows: the reading order of `surface`, with each completed term stored as a row of words. The contracts
--- of the frame reader's steps cite it; the law in proofs/ says that it stores the rows of the tree that the reading order gives. Assumes nothing.
+-- of the frame reader's steps cite it; the law in proofs/ says that it stores the rows of the tree that the reading order gives.
 use mathlib.Core.List.{List, [], _∷_, _++_}
 use mathlib.Core.Bool.{true, false}
 use Prim.Native.Nat.{ℕ, zero, suc, _-_}

@@ -1,4 +1,4 @@
--- The numbers of a token: a byte is refused with 1 at its offset, wherever it stands. Assumes nothing.
+-- The numbers of a token: a byte is refused with 1 at its offset, wherever it stands.
 use mathlib.Core.Path.{_≡_, refl}
 use mathlib.Core.List.{List, [], _∷_}
 use mathlib.Core.Bool.{false}

@@ -1,4 +1,4 @@
--- The answers of the inner layers as numbers. Assumes nothing.
+-- The answers of the inner layers as numbers.
 use Prim.Native.Nat.{ℕ}
 use Rattle.token.specs.declared.Place.{Place}
 use Rattle.token.specs.declared.Lexed.{Lexed}

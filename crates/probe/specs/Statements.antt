@@ -1,4 +1,4 @@
--- What the three numbers of the token function say; probe/proofs/Statements.antt has the proof. Assumes nothing.
+-- What the three numbers of the token function say; probe/proofs/Statements.antt has the proof.
 use mathlib.Core.Path.{_≡_}
 use mathlib.Core.List.{List, [], _∷_}
 use Prim.Native.Nat.{ℕ, zero, suc}

@@ -1,4 +1,4 @@
--- Reading goes on behind what was read and within the source; its rows are stored, and there are no more of them than bytes. Assumes nothing.
+-- Reading goes on behind what was read and within the source; its rows are stored, and there are no more of them than bytes.
 use mathlib.Core.Path.{_≡_, refl, _∙_, ap}
 use mathlib.Core.List.{List}
 use mathlib.Core.Option.{Option}

@@ -1,4 +1,4 @@
--- A declaration by its parts: what the reading order gives, and the words that are stored. Assumes nothing.
+-- A declaration by its parts: what the reading order gives, and the words that are stored.
 use mathlib.Core.Path.{_≡_, refl, sym, _∙_, ap, ap₂, subst}
 use mathlib.Core.List.{List, [], _∷_, _++_}
 use mathlib.Core.Option.{Option, none, some}

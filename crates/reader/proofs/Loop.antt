@@ -1,4 +1,4 @@
--- The loop over declarations: the answer for those that are left is the answer for all. Assumes nothing.
+-- The loop over declarations: the answer for those that are left is the answer for all.
 use mathlib.Core.Path.{_≡_, refl, sym, _∙_, subst}
 use mathlib.Core.List.{List}
 use Prim.Native.Nat.{ℕ, _+_, _/_, _≤_, _<_}

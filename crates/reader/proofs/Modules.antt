@@ -1,4 +1,4 @@
--- A module: its head, then its declarations. Assumes nothing.
+-- A module: its head, then its declarations.
 use mathlib.Core.Path.{_≡_, refl, sym, _∙_, ap, subst}
 use mathlib.Core.List.{List}
 use Prim.Native.Nat.{ℕ, _+_, _-_, _/_, _≤_}

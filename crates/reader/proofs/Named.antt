@@ -1,4 +1,4 @@
--- A declaration behind its word, from what its reader's calls give. Assumes nothing.
+-- A declaration behind its word, from what its reader's calls give.
 use mathlib.Core.Path.{_≡_, refl, sym, _∙_, ap, subst}
 use mathlib.Core.List.{List, [], _∷_}
 use Prim.Native.Nat.{ℕ, suc, _-_, _/_, _≤_, _<_}

@@ -1,4 +1,4 @@
--- What the reader of terms gives, as trees: a type, and a body that may be absent. Assumes nothing.
+-- What the reader of terms gives, as trees: a type, and a body that may be absent.
 use mathlib.Core.Path.{_≡_, refl, sym, _∙_, ap, ap₂, subst}
 use mathlib.Core.List.{List}
 use mathlib.Core.Option.{Option, some}

@@ -1,4 +1,4 @@
--- What stands next in a module: the end, a declaration, or what is refused. Assumes nothing.
+-- What stands next in a module: the end, a declaration, or what is refused.
 use mathlib.Core.Path.{_≡_, refl, sym, _∙_, ap, ap₂, subst}
 use mathlib.Core.List.{List, [], _∷_, _++_, map}
 use Prim.Native.Nat.{ℕ, zero, suc, _+_, _-_, _*_, _/_, _≤_, _<_}

@@ -1,4 +1,4 @@
--- A declaration behind its parenthesis, by its word. Assumes nothing.
+-- A declaration behind its parenthesis, by its word.
 use mathlib.Core.Path.{_≡_, sym, _∙_, ap, subst}
 use mathlib.Core.List.{List}
 use Prim.Native.Nat.{ℕ, suc, _-_}

@@ -1,4 +1,4 @@
--- The words of trees behind one another. Assumes nothing.
+-- The words of trees behind one another.
 use mathlib.Core.Path.{_≡_, refl, sym, _∙_, ap}
 use mathlib.Core.List.{List, [], _∷_, _++_, map, map-append, append-assoc}
 use Prim.Native.Nat.{ℕ, suc, _+_, _*_}

@@ -1,4 +1,4 @@
--- Declarations read straight into rows and records: the reading order of `surface`, with each declaration as words. Assumes nothing.
+-- Declarations read straight into rows and records: the reading order of `surface`, with each declaration as words.
 use mathlib.Core.List.{List, map}
 use mathlib.Core.Option.{Option, none, some}
 use Prim.Native.Nat.{ℕ}

@@ -1,4 +1,4 @@
--- The parts of reading a module that have functions of their own. Assumes nothing.
+-- The parts of reading a module that have functions of their own.
 use mathlib.Core.Path.{_≡_}
 use mathlib.Core.List.{List}
 use mathlib.Core.Option.{Option}

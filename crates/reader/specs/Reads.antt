@@ -1,4 +1,4 @@
--- What the reader of modules promises: its answers and the words that it leaves, by the reading order of `surface`. Assumes nothing.
+-- What the reader of modules promises: its answers and the words that it leaves, by the reading order of `surface`.
 use mathlib.Core.Path.{_≡_}
 use mathlib.Core.List.{List}
 use Prim.Native.Nat.{ℕ, _*_, _/_, _≤_}

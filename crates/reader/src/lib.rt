@@ -137,7 +137,7 @@ fn read_named(
 }
 
 // The declaration behind an opening parenthesis: its rows are stored behind the others, and its record at place k.
-pub fn read_declaration(
+fn read_declaration(
     s: &[u8],
     table: &mut [u32],
     list: &mut [u32],

@@ -1,4 +1,4 @@
--- What the program's asking leaves: a question with a list of 256 records, whose words are handed out. Assumes nothing.
+-- What the program's asking leaves: a question with a list of 256 records, whose words are handed out.
 use mathlib.Core.Path.{_≡_}
 use mathlib.Core.List.{List}
 use Prim.Native.Nat.{ℕ}

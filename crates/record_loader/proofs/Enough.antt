@@ -1,4 +1,4 @@
--- A list of any length is left as five words for each of its records would be, though the array has 65,535 words. Assumes nothing.
+-- A list of any length is left as five words for each of its records would be, though the array has 65,535 words.
 use mathlib.Core.Path.{_≡_, refl, sym, ap, _∙_, subst}
 use mathlib.Core.List.{List, []}
 use Prim.Native.Nat.{ℕ, _*_, _≤_}

@@ -1,4 +1,4 @@
--- The front of a table of words is lent to a call, and comes back as the call left it, with what lies behind. Assumes nothing.
+-- The front of a table of words is lent to a call, and comes back as the call left it, with what lies behind.
 use mathlib.Core.Path.{_≡_, sym, ap, _∙_, subst}
 use mathlib.Core.List.{List, _++_}
 use Prim.Native.Nat.{ℕ, _≤_}

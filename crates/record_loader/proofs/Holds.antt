@@ -1,4 +1,4 @@
--- What the list holds after loading: the declarations' records in order, and blanks behind them; after a refusal blanks alone. Assumes nothing.
+-- What the list holds after loading: the declarations' records in order, and blanks behind them; after a refusal blanks alone.
 use mathlib.Core.Path.{_≡_, refl, sym, ap, _∙_}
 use mathlib.Core.List.{List, []}
 use mathlib.Core.Bool.{Bool, true, false}

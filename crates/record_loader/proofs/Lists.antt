@@ -1,4 +1,4 @@
--- The records of a table's front are the records of the table; and a list that is longer than any source needs has blanks behind. Assumes nothing.
+-- The records of a table's front are the records of the table; and a list that is longer than any source needs has blanks behind.
 use mathlib.Core.Path.{_≡_, refl, sym, ap, _∙_}
 use mathlib.Core.List.{List, [], _∷_}
 use mathlib.Core.Bool.{Bool, true, false}

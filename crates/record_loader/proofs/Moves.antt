@@ -1,4 +1,4 @@
--- Readers go on: a token takes a byte at least, a term too, and a declaration five with its parenthesis. Assumes nothing.
+-- Readers go on: a token takes a byte at least, a term too, and a declaration five with its parenthesis.
 use mathlib.Core.Path.{_≡_, refl, ap}
 use mathlib.Core.List.{List}
 use mathlib.Core.Option.{Option, none, some}

@@ -1,4 +1,4 @@
--- Whatever is asked, the list is left as its words would be. Assumes nothing.
+-- Whatever is asked, the list is left as its words would be.
 use mathlib.Core.Path.{_≡_, sym, ap, _∙_, subst}
 use mathlib.Core.List.{List, []}
 use Prim.Native.Nat.{ℕ, _*_}

@@ -1,5 +1,5 @@
 -- Room for 13,107 declarations is room enough: with more, reading and loading give the same, since a declaration takes five bytes at least and
--- a source of more than 65,535 is refused. Assumes nothing.
+-- a source of more than 65,535 is refused.
 use mathlib.Core.Path.{_≡_, refl, ap, subst}
 use mathlib.Core.List.{List, [], _∷_}
 use mathlib.Core.Bool.{Bool, true, false, not}

@@ -1,5 +1,4 @@
 -- Whatever is asked, 65,535 words are enough for the declarations: with more the answer is the same, and none has more declarations than it has room for.
--- Assumes nothing.
 use mathlib.Core.Path.{_≡_, refl, sym, ap, subst}
 use mathlib.Core.List.{List}
 use mathlib.Core.Bool.{Bool, true, false, _&&_}

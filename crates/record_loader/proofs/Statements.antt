@@ -1,4 +1,4 @@
--- The statements of record_loader/specs/Statements.antt, proved: those of the word-based calls. Assumes nothing.
+-- The statements of record_loader/specs/Statements.antt, proved: those of the word-based calls.
 use mathlib.Core.Path.{sym, subst}
 use mathlib.Core.List.{List}
 use Prim.Native.Nat.{ℕ}

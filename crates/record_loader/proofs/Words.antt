@@ -1,4 +1,4 @@
--- A list of records and its words: made of a table of five words for each record, it has the table's words. Assumes nothing.
+-- A list of records and its words: made of a table of five words for each record, it has the table's words.
 use mathlib.Core.Path.{_≡_, refl, sym, ap, _∙_}
 use mathlib.Core.List.{List, [], _∷_, _++_, append-nil}
 use Prim.Native.Nat.{ℕ, zero, suc, _+_, _*_, _≤_, _<_}

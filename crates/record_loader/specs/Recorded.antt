@@ -1,4 +1,4 @@
--- Document 01, "the declaration list is lent as a slice of records, 9 then counting records". Assumes nothing.
+-- Document 01, "the declaration list is lent as a slice of records, 9 then counting records".
 use mathlib.Core.List.{List, [], _∷_}
 use Prim.Native.Nat.{ℕ}
 use lib.ListN.{length, take}

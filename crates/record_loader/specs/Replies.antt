@@ -1,4 +1,4 @@
--- The questions to a source: what a call with such tables before it answers and leaves, a clause for each question. Assumes nothing.
+-- The questions to a source: what a call with such tables before it answers and leaves, a clause for each question.
 use mathlib.Core.Path.{_≡_}
 use mathlib.Core.List.{List, []}
 use Prim.Native.Nat.{ℕ}

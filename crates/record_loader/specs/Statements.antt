@@ -1,4 +1,4 @@
--- Statements about calls of `ask_records`, each as a type; record_loader/proofs/Statements.antt has a proof of each. Assumes nothing.
+-- Statements about calls of `ask_records`, each as a type; record_loader/proofs/Statements.antt has a proof of each.
 use mathlib.Core.Path.{_≡_}
 use mathlib.Core.Logic.{_↔_}
 use mathlib.Core.List.{List}

@@ -1,4 +1,4 @@
--- A record that the table has whole, and one that it has not; lists that a table has room for, and longer ones. Assumes nothing.
+-- A record that the table has whole, and one that it has not; lists that a table has room for, and longer ones.
 use mathlib.Core.Path.{_≡_, refl, sym, ap}
 use Prim.Native.Nat.{ℕ, _*_, _/_, _≤_, _<_}
 use mathlib.Core.List.{List}

@@ -1,5 +1,4 @@
 -- A table of words that is written from the front with the fields of a list of records: after k turns it is `words-of` of the first k.
--- Assumes nothing.
 use mathlib.Core.Path.{_≡_, refl, sym, _∙_, ap}
 use Prim.Native.Nat.{ℕ, suc, _+_, _*_, _/_, _<_}
 use native.Mathlib.Numerals.{add-one}

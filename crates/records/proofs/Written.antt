@@ -1,5 +1,4 @@
 -- A list of records that is written from the front with what a table of words says: after k turns the first k are the table's, and the rest as they were.
--- Assumes nothing.
 use mathlib.Core.Path.{_≡_, refl, sym, _∙_, ap}
 use Prim.Native.Nat.{ℕ, zero, suc, _+_, _≤_, _<_}
 use native.Mathlib.Nat.{zero-add}

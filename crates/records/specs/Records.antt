@@ -1,4 +1,4 @@
--- Document 01, "A declaration record": tables of words and lists of records. Assumes nothing.
+-- Document 01, "A declaration record": tables of words and lists of records.
 use Prim.Native.Nat.{ℕ, zero, suc, _+_, _*_, _/_}
 use mathlib.Core.List.{List, [], _∷_}
 use mathlib.Core.Bool.{cond}

@@ -1,4 +1,4 @@
--- The arity of every kind and whether it has a span: those of a table, by one computed test each, and the kinds behind them. Assumes nothing.
+-- The arity of every kind and whether it has a span: those of a table, by one computed test each, and the kinds behind them.
 use Prim.Native.Nat.{ℕ, zero, suc, _+_, _*_, _-_, _/_, _%_, _^_, _≤_, _<_}
 use mathlib.Core.Path.{_≡_, refl, sym, ap, _∙_}
 use mathlib.Core.Bool.{Bool, true, false, _&&_, and-eq-true-iff}

@@ -1,4 +1,4 @@
--- Words stored at a place of a table, for any width. Assumes nothing.
+-- Words stored at a place of a table, for any width.
 use Prim.Native.Nat.{ℕ, _+_, _*_, _/_, _≤_, _<_}
 use mathlib.Core.Path.{_≡_, sym, ap, _∙_}
 use mathlib.Core.Bool.{Bool, true, cond}

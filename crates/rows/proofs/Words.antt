@@ -1,4 +1,4 @@
--- The words of a row: the arguments that are there, and 0 for the others. Assumes nothing.
+-- The words of a row: the arguments that are there, and 0 for the others.
 use Prim.Native.Nat.{ℕ, zero, suc, _≤_}
 use native.Mathlib.Omega.{arith}
 use mathlib.Core.Path.{_≡_, refl, sym, ap, ap₂, _∙_}

@@ -1,4 +1,4 @@
--- A table of words as places of equal width: rows of eight words, declaration records of five. Assumes nothing.
+-- A table of words as places of equal width: rows of eight words, declaration records of five.
 use Prim.Native.Nat.{ℕ, _*_, _/_}
 use mathlib.Core.List.{List}
 use mathlib.Core.Bool.{Bool, cond}

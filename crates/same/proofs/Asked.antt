@@ -1,4 +1,4 @@
--- What a call of `same` promises, from what its calls of `load` leave. Assumes nothing.
+-- What a call of `same` promises, from what its calls of `load` leave.
 use Prim.Native.Nat.{ℕ}
 use mathlib.Core.Path.{_≡_, refl, sym, ap, _∙_, subst₂}
 use mathlib.Core.List.{List, []}

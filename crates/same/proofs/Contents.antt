@@ -1,4 +1,4 @@
--- What counts of a row and of a record, word by word. Assumes nothing.
+-- What counts of a row and of a record, word by word.
 use Prim.Native.Nat.{ℕ, _+_, _*_}
 use mathlib.Core.Path.{_≡_, refl, sym, ap, _∙_, subst}
 use mathlib.Core.List.{List, [], _∷_}

@@ -1,4 +1,4 @@
--- Declarations that are the same in two pairs of tables, one after the other. Assumes nothing.
+-- Declarations that are the same in two pairs of tables, one after the other.
 use Prim.Native.Nat.{ℕ, suc, _+_, _*_, _≤_, _<_}
 use mathlib.Core.Path.{_≡_, sym, subst₂}
 use mathlib.Core.List.{List}

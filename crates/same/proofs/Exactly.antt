@@ -1,4 +1,4 @@
--- DEMAND 3 in the answer of `same`: `Same` exactly if the two sources agree, `Different k` exactly if they part at k. Assumes nothing.
+-- DEMAND 3 in the answer of `same`: `Same` exactly if the two sources agree, `Different k` exactly if they part at k.
 use Prim.Native.Nat.{ℕ, zero, suc}
 use mathlib.Core.Path.{_≡_, refl, sym, ap, _∙_, subst, subst₂}
 use mathlib.Core.Logic.{inl, inr}

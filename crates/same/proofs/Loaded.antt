@@ -1,4 +1,4 @@
--- What loading a source leaves, refused or not, for the comparison. Assumes nothing.
+-- What loading a source leaves, refused or not, for the comparison.
 use Prim.Native.Nat.{ℕ, _*_, _≤_}
 use mathlib.Core.Path.{_≡_, refl, sym, ap, subst}
 use mathlib.Core.List.{List, [], map}

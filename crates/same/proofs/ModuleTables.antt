@@ -1,4 +1,4 @@
--- The tables of a module, row by row and record by record, and of its first declarations. Assumes nothing.
+-- The tables of a module, row by row and record by record, and of its first declarations.
 use Prim.Native.Nat.{ℕ, zero, suc, _+_, _*_, _≤_, _<_, max}
 use mathlib.Core.Path.{_≡_, refl, sym, ap, ap₂, _∙_}
 use mathlib.Core.List.{List, [], _∷_, map}

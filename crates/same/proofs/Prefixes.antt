@@ -1,4 +1,4 @@
--- The first declarations of a module with names: they are a module, and their rows and records come first. Assumes nothing.
+-- The first declarations of a module with names: they are a module, and their rows and records come first.
 use Prim.Native.Nat.{ℕ, zero, suc, _+_, _≤_, _<_, max}
 use mathlib.Core.Path.{_≡_, refl, sym, ap, _∙_}
 use mathlib.Core.Logic.{ite}

@@ -1,4 +1,4 @@
--- Tables that hold two modules are the same up to a place exactly if the modules agree up to it. Assumes nothing.
+-- Tables that hold two modules are the same up to a place exactly if the modules agree up to it.
 use Prim.Native.Nat.{ℕ, zero, suc, _≤_, _<_}
 use mathlib.Core.Path.{_≡_, refl, sym, ap, _∙_, subst}
 use mathlib.Core.List.{List, [], _∷_}

@@ -1,4 +1,4 @@
--- Words of two tables, and parts of two sources: equal exactly if a test says so. Assumes nothing.
+-- Words of two tables, and parts of two sources: equal exactly if a test says so.
 use Prim.Native.Nat.{ℕ, zero, suc, _+_, _<_}
 use mathlib.Core.Path.{_≡_, refl, sym, ap, _∙_}
 use mathlib.Core.List.{List, _∷_}

@@ -1,4 +1,4 @@
--- Ours, beyond document 01: whether two sources leave the same core, and otherwise where they part. Assumes nothing.
+-- Ours, beyond document 01: whether two sources leave the same core, and otherwise where they part.
 use mathlib.Core.Path.{_≡_}
 use mathlib.Core.List.{List, [], _∷_, map}
 use Prim.Native.Nat.{ℕ, zero, suc}

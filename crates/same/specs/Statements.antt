@@ -1,4 +1,4 @@
--- Headline statements about calls of `same`; same/proofs/Exactly.antt has the proofs. Assumes nothing.
+-- Headline statements about calls of `same`; same/proofs/Exactly.antt has the proofs.
 use mathlib.Core.Path.{_≡_}
 use mathlib.Core.Logic.{_↔_, _⊎_}
 use mathlib.Core.List.{List, [], _∷_}

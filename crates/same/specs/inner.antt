@@ -1,2 +1,2 @@
--- Definitions that only contracts of inner functions cite: nobody has to believe them. Assumes nothing.
+-- Definitions that only contracts of inner functions cite: nobody has to believe them.
 pub mod Contents

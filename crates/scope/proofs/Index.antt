@@ -1,4 +1,4 @@
--- The index of names: one more byte, the walk from a head along the links, and one more declaration. Assumes nothing.
+-- The index of names: one more byte, the walk from a head along the links, and one more declaration.
 use Prim.Native.Nat.{ℕ, zero, suc, _+_, _-_, _*_, _/_, _%_, _^_, _≤_, _<_}
 use mathlib.Core.Path.{_≡_, refl, sym, _∙_, ap, subst}
 use mathlib.Core.List.{List, [], _∷_}

@@ -1,4 +1,4 @@
--- A walk over a list of names that passes one name after the other. Assumes nothing.
+-- A walk over a list of names that passes one name after the other.
 use Prim.Native.Nat.{ℕ, suc, _+_, _-_, _*_, _<_}
 use mathlib.Core.Path.{_≡_, refl, sym, _∙_, ap, ap₂}
 use mathlib.Core.List.{List, [], _∷_}

@@ -1,6 +1,6 @@
 -- Ours: an index from the names of declarations to their places, a search tree under each head. A name's mark chooses a head; a head and a link hold a
 -- place, as one more than itself, and 0 is none; from a place whose name is another one the walk goes on by one of its two links, which the next bit
--- chooses: of the number mixed from the name looked for, and then of that name. Assumes nothing.
+-- chooses: of the number mixed from the name looked for, and then of that name.
 -- Only contracts of functions that `elaborate` calls on its way cite this.
 use Prim.Native.Nat.{ℕ, _+_, _-_, _*_, _/_, _%_, _^_, _<_, _≤_}
 use mathlib.Core.Path.{_≡_}

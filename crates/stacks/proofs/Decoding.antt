@@ -1,4 +1,4 @@
--- The stacks read from a work area: how many items they have, and that only their own words count. Assumes nothing.
+-- The stacks read from a work area: how many items they have, and that only their own words count.
 use Prim.Native.Nat.{ℕ, zero, suc, _+_, _-_, _*_, _≤_, _<_}
 use mathlib.Core.Path.{_≡_, refl, _∙_, ap}
 use mathlib.Core.List.{List, [], _∷_, _++_}

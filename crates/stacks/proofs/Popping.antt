@@ -1,4 +1,4 @@
--- Work items and values read from the top of their stacks. Assumes nothing.
+-- Work items and values read from the top of their stacks.
 use Prim.Native.Nat.{ℕ, zero, suc, _+_, _*_, _<_}
 use mathlib.Core.Path.{_≡_, refl, sym, _∙_, ap, ap₂}
 use mathlib.Core.List.{List, [], _∷_, _++_}

@@ -1,4 +1,4 @@
--- The stacks after words were stored. Assumes nothing.
+-- The stacks after words were stored.
 use Prim.Native.Nat.{ℕ, _+_, _*_, _≤_, _<_}
 use mathlib.Core.Path.{_≡_, sym, _∙_, ap}
 use mathlib.Core.List.{List, [], _∷_, _++_}

@@ -1,4 +1,4 @@
--- The three stacks in the work area: names in scope from word 0, values from word 2,048, work items from word 5,120. Assumes nothing.
+-- The three stacks in the work area: names in scope from word 0, values from word 2,048, work items from word 5,120.
 -- There is room for 512 names of up to four words, for 3,072 values, and for 3,754 work items of three words.
 use Prim.Native.Nat.{ℕ, zero, suc, _+_, _*_, _≤_}
 use mathlib.Core.Path.{_≡_}

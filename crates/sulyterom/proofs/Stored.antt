@@ -1,4 +1,4 @@
--- Numbers stored one by one. Assumes nothing.
+-- Numbers stored one by one.
 use mathlib.Core.Path.{_≡_, refl}
 use mathlib.Core.List.{List, [], _∷_, _++_}
 use Prim.Native.Nat.{ℕ, _≤_}

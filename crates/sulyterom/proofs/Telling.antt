@@ -1,4 +1,4 @@
--- What is told of an answer whose report is known. Assumes nothing.
+-- What is told of an answer whose report is known.
 use mathlib.Core.Path.{_≡_, ap, _∙_}
 use mathlib.Core.List.{List}
 use Prim.Native.Nat.{ℕ}

@@ -1,4 +1,4 @@
--- The answers as plain numbers, for C and Rust. Assumes nothing.
+-- The answers as plain numbers, for C and Rust.
 use mathlib.Core.Path.{_≡_}
 use mathlib.Core.Bool.{cond}
 use mathlib.Core.List.{List, [], _∷_, _++_}

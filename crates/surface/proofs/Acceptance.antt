@@ -1,4 +1,4 @@
--- Which sources are read and loaded: well-formed UTF-8 without the mark, within the limits, and a module by the grammar. Assumes nothing.
+-- Which sources are read and loaded: well-formed UTF-8 without the mark, within the limits, and a module by the grammar.
 use mathlib.Core.Path.{_≡_, refl, sym, ap, _∙_, subst}
 use mathlib.Core.Logic.{_↔_}
 use mathlib.Core.List.{List, []}

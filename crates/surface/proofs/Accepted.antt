@@ -1,4 +1,4 @@
--- DEMAND 1, from the promise of `load`: which sources a call accepts, and what it leaves where it refuses. Assumes nothing.
+-- DEMAND 1, from the promise of `load`: which sources a call accepts, and what it leaves where it refuses.
 use mathlib.Core.Path.{_≡_, refl, sym, ap, _∙_, subst}
 use mathlib.Core.Logic.{_↔_}
 use mathlib.Core.List.{List}

@@ -1,4 +1,4 @@
--- Terms that the grammar derives are read, where there is room. Assumes nothing.
+-- Terms that the grammar derives are read, where there is room.
 use mathlib.Core.Path.{_≡_, refl, sym, ap, _∙_, subst}
 use mathlib.Core.List.{List, _∷_}
 use Prim.Native.Nat.{ℕ, zero, suc, _≤_, _<_}

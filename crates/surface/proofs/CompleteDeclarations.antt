@@ -1,4 +1,4 @@
--- Declarations that the grammar derives are read, where there is room. Assumes nothing.
+-- Declarations that the grammar derives are read, where there is room.
 use mathlib.Core.Path.{_≡_, refl, sym, ap, _∙_, subst}
 use mathlib.Core.List.{List, [], _∷_}
 use mathlib.Core.Option.{none, some}

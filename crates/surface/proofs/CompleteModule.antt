@@ -1,4 +1,4 @@
--- A module that the grammar derives is read, where there is room; so the grammar derives one module at most. Assumes nothing.
+-- A module that the grammar derives is read, where there is room; so the grammar derives one module at most.
 use mathlib.Core.Path.{_≡_, refl, sym, ap, _∙_, subst}
 use mathlib.Core.List.{List}
 use mathlib.Core.Option.{Option, none, some}

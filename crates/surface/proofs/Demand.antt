@@ -1,4 +1,4 @@
--- Demand 3: what two loads leave is the same core exactly if the two sources agree. Assumes nothing.
+-- Demand 3: what two loads leave is the same core exactly if the two sources agree.
 use mathlib.Core.Path.{_≡_, refl, sym, ap, _∙_, subst, subst₂}
 use mathlib.Core.Logic.{_↔_}
 use mathlib.Core.List.{List, [], map}

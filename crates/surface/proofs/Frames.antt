@@ -1,4 +1,4 @@
--- Laws of how many frames are open at once while terms are read. Assumes nothing.
+-- Laws of how many frames are open at once while terms are read.
 use mathlib.Core.Path.{_≡_, refl}
 use Prim.Native.Nat.{ℕ, zero, suc, _≤_}
 use native.Mathlib.Omega.{arith}

@@ -1,4 +1,4 @@
--- Loading, refused or not, leaves each table as long as it was lent. Assumes nothing.
+-- Loading, refused or not, leaves each table as long as it was lent.
 use mathlib.Core.Path.{_≡_}
 use mathlib.Core.List.{List}
 use Prim.Native.Nat.{ℕ}

@@ -1,4 +1,4 @@
--- Further readings, computed by the definitions: points of document 01 that are easy to misread. Assumes nothing.
+-- Further readings, computed by the definitions: points of document 01 that are easy to misread.
 use mathlib.Core.Path.{_≡_, refl}
 use mathlib.Core.List.{List, [], _∷_, _++_, map}
 use Prim.Native.Nat.{ℕ, zero, suc}

@@ -1,4 +1,4 @@
--- The numbers and values of answers: by the promise of a call they are what the definitions give. Assumes nothing.
+-- The numbers and values of answers: by the promise of a call they are what the definitions give.
 use mathlib.Core.Path.{_≡_, refl, sym, ap, _∙_, subst}
 use mathlib.Core.Logic.{inl, inr}
 use mathlib.Core.List.{List, [], _∷_}

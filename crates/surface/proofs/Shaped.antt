@@ -1,4 +1,4 @@
--- What the grammar derives has the shape of a module: each term has as many arguments as its kind wants. Assumes nothing.
+-- What the grammar derives has the shape of a module: each term has as many arguments as its kind wants.
 use mathlib.Core.Path.{_≡_, refl, sym, ap, _∙_, subst}
 use mathlib.Core.List.{List, map}
 use mathlib.Core.Bool.{Bool, true, _&&_, and-eq-true-iff}

@@ -1,4 +1,4 @@
--- A term that is read is what the grammar says. Assumes nothing.
+-- A term that is read is what the grammar says.
 use mathlib.Core.Path.{_≡_, refl, sym, ap, _∙_, subst}
 use mathlib.Core.List.{List, _∷_}
 use mathlib.Core.Option.{Option, none, some}

@@ -1,4 +1,4 @@
--- Declarations that are read are what the grammar says. Assumes nothing.
+-- Declarations that are read are what the grammar says.
 use mathlib.Core.Path.{_≡_, refl, ap, _∙_, subst}
 use mathlib.Core.List.{List, [], _∷_}
 use mathlib.Core.Option.{Option, some}

@@ -1,4 +1,4 @@
--- The starred readings of document 01's card (specs/Card), computed by the definitions. Assumes nothing.
+-- The starred readings of document 01's card (specs/Card), computed by the definitions.
 use mathlib.Core.Path.{refl}
 use Rattle.token.specs.Token.{byte-class, layout-end, atom-from, token-here, next-token}
 use Rattle.words.specs.Words.{same-bytes, reserved-words, place-in, word-index, reserved, all, identifier, numeral}

@@ -1,4 +1,4 @@
--- A proof of each headline statement (specs/Statements and specs/Card), from the file that has it. Assumes nothing.
+-- A proof of each headline statement (specs/Statements and specs/Card), from the file that has it.
 use mathlib.Core.List.{List}
 use native.Mathlib.Omega.{arith}
 use Rattle.terms.proofs.Widths.{total-surface}

@@ -1,4 +1,4 @@
--- What a step of the reader that succeeds has met. Assumes nothing.
+-- What a step of the reader that succeeds has met.
 use mathlib.Core.Path.{_≡_, refl, sym, ap, _∙_, subst}
 use mathlib.Core.List.{List, _∷_}
 use mathlib.Core.Bool.{Bool, true, false, not, false≢true}

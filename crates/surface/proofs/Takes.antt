@@ -1,4 +1,4 @@
--- What a step of the reader gives on the tokens that it wants. Assumes nothing.
+-- What a step of the reader gives on the tokens that it wants.
 use mathlib.Core.Path.{_≡_, refl, ap, _∙_}
 use mathlib.Core.List.{List, _∷_}
 use mathlib.Core.Option.{Option}

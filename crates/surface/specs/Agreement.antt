@@ -1,4 +1,4 @@
--- Document 01, "The core module": *agreement* of two sources, read from them by the grammar alone. Assumes nothing.
+-- Document 01, "The core module": *agreement* of two sources, read from them by the grammar alone.
 use mathlib.Core.List.{List, map}
 use Prim.Native.Nat.{ℕ}
 use Rattle.terms.specs.Label.{Declaration, named-declaration}

@@ -1,4 +1,4 @@
--- Document 01, "Readings on the card": the starred lines as one table. Assumes nothing.
+-- Document 01, "Readings on the card": the starred lines as one table.
 use mathlib.Core.Path.{_≡_}
 use mathlib.Core.List.{List, [], _∷_, _++_, map}
 use Prim.Native.Nat.{ℕ}

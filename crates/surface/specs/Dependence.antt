@@ -1,4 +1,4 @@
--- Document 01, "The core module" and refusal 12: the dependence question about a source. Assumes nothing.
+-- Document 01, "The core module" and refusal 12: the dependence question about a source.
 use mathlib.Core.Path.{_≡_}
 use mathlib.Core.List.{List, []}
 use mathlib.Core.Bool.{_&&_}

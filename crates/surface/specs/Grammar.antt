@@ -1,4 +1,4 @@
--- Document 01, "The module read": which tokens are a module, a declaration, a term, production by production. Assumes nothing.
+-- Document 01, "The module read": which tokens are a module, a declaration, a term, production by production.
 use mathlib.Core.Path.{_≡_}
 use mathlib.Core.List.{List, [], _∷_}
 use mathlib.Core.Option.{none, some}

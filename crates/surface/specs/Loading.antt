@@ -1,4 +1,4 @@
--- Document 01, "When nothing is loaded": the answer and the four tables, from a source and the tables' lengths. Assumes nothing.
+-- Document 01, "When nothing is loaded": the answer and the four tables, from a source and the tables' lengths.
 use mathlib.Core.Path.{_≡_}
 use mathlib.Core.List.{List, []}
 use mathlib.Core.Option.{Option, none, some}

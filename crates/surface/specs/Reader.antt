@@ -1,4 +1,4 @@
--- Readers: what stands next, or the first refusal that is met. Assumes nothing.
+-- Readers: what stands next, or the first refusal that is met.
 use mathlib.Core.Bool.{Bool, true, false}
 use Prim.Native.Nat.{ℕ}
 use Rattle.token.specs.declared.Token.{Token}

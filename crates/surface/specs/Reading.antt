@@ -1,4 +1,4 @@
--- Document 01, "The module read" and "When nothing is loaded": reading order, as a plain recursive reader. Assumes nothing.
+-- Document 01, "The module read" and "When nothing is loaded": reading order, as a plain recursive reader.
 use mathlib.Core.List.{List, [], _∷_}
 use mathlib.Core.Option.{Option, none, some}
 use mathlib.Core.Bool.{true, false, not, _&&_}

@@ -1,5 +1,5 @@
 -- Document 01, "When an answer is an enum, a definition provides this paper's number and values for each of the enum's cases." Here those
--- of the answers of loading, of the dependence question and of the token function. Assumes nothing.
+-- of the answers of loading, of the dependence question and of the token function.
 use mathlib.Core.List.{List, [], _∷_}
 use Prim.Native.Nat.{ℕ}
 use Rattle.token.specs.declared.Place.{Place}

@@ -1,4 +1,4 @@
--- Document 01, "The core module": *same core*, of the core tables and declaration lists that two calls leave. Assumes nothing.
+-- Document 01, "The core module": *same core*, of the core tables and declaration lists that two calls leave.
 use mathlib.Core.Path.{_≡_}
 use mathlib.Core.List.{List, map}
 use Prim.Native.Nat.{ℕ}

@@ -1,5 +1,5 @@
 -- The headline statements, each as a type, with the definitions that only they use; surface/proofs/Statements.antt has a proof of each.
--- The starred readings stand in Card. Assumes nothing.
+-- The starred readings stand in Card.
 use mathlib.Core.Path.{_≡_}
 use mathlib.Core.Logic.{_↔_, _⊎_}
 use mathlib.Core.List.{List, [], _∷_}

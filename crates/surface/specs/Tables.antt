@@ -1,4 +1,4 @@
--- What a call is lent and what it leaves: the lent tables, said once. Assumes nothing.
+-- What a call is lent and what it leaves: the lent tables, said once.
 use mathlib.Core.List.{List, []}
 use Prim.Native.Nat.{ℕ}
 use lib.ListN.{length}

@@ -1,4 +1,4 @@
--- Tokens: their bytes, their kinds, and what is kept of a term. Assumes nothing.
+-- Tokens: their bytes, their kinds, and what is kept of a term.
 use mathlib.Core.List.{List}
 use mathlib.Core.Bool.{Bool, true, false}
 use Prim.Native.Nat.{ℕ, _-_}

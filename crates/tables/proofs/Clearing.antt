@@ -1,4 +1,4 @@
--- A table whose words are cleared one after the other, from a word on. Assumes nothing.
+-- A table whose words are cleared one after the other, from a word on.
 use Prim.Native.Nat.{ℕ, suc, _+_, _-_, _≤_, _<_}
 use mathlib.Core.Path.{_≡_, refl, sym, ap, ap₂, _∙_}
 use mathlib.Core.List.{List, [], _∷_, _++_, append-nil}

@@ -1,4 +1,4 @@
--- What a table holds in front of words that were stored, at them and behind them. Assumes nothing.
+-- What a table holds in front of words that were stored, at them and behind them.
 use Prim.Native.Nat.{ℕ, _+_, _≤_, _<_}
 use mathlib.Core.Path.{_≡_, ap, sym, _∙_}
 use mathlib.Core.List.{List, _++_, append-assoc}

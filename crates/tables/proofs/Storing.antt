@@ -1,4 +1,4 @@
--- A run of words stored one after the other, and what the table then holds. Assumes nothing.
+-- A run of words stored one after the other, and what the table then holds.
 use Prim.Native.Nat.{ℕ, _+_, _-_, _≤_, _<_}
 use mathlib.Core.Path.{_≡_, refl, sym, ap, ap₂, _∙_}
 use mathlib.Core.Bool.{Bool, true, false, cond}

@@ -1,4 +1,4 @@
--- What stands in a table of words after words were stored or cleared. Assumes nothing.
+-- What stands in a table of words after words were stored or cleared.
 use Prim.Native.Nat.{ℕ, _+_, _-_}
 use mathlib.Core.List.{List, _++_}
 use mathlib.Core.Bool.{Bool, cond}

@@ -1,4 +1,4 @@
--- What binds a reference, computed: the list of the binders around a place. Assumes nothing.
+-- What binds a reference, computed: the list of the binders around a place.
 use mathlib.Core.Path.{_≡_, refl, sym, ap, _∙_}
 use mathlib.Core.Logic.{_⊎_, inl, inr, _↔_, ite, if-pos, if-neg, by-cases}
 use mathlib.Core.List.{List, [], _∷_, _++_, map, head-eq-of-cons-eq, tail-eq-of-cons-eq, nil≢cons}

@@ -1,4 +1,4 @@
--- The rows of trees: how many there are, and that they determine the trees. Assumes nothing.
+-- The rows of trees: how many there are, and that they determine the trees.
 use mathlib.Core.Path.{_≡_, refl, sym, ap, _∙_}
 use mathlib.Core.List.{List, [], _∷_, _++_, map, map-append, head-eq-of-cons-eq, tail-eq-of-cons-eq}
 use Prim.Native.Nat.{ℕ, zero, suc, _+_}

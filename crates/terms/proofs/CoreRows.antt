@@ -1,4 +1,4 @@
--- Rows with names: a row determines its term and its children, and the rows determine the trees. Assumes nothing.
+-- Rows with names: a row determines its term and its children, and the rows determine the trees.
 use mathlib.Core.Path.{_≡_, refl, sym, ap, _∙_}
 use mathlib.Core.List.{List, [], _∷_, _++_, map, head-eq-of-cons-eq, tail-eq-of-cons-eq}
 use Prim.Native.Nat.{ℕ, zero, suc, _≤_}

@@ -1,4 +1,4 @@
--- Dependence as a test, and that a declaration's rows stand one behind the other. Assumes nothing.
+-- Dependence as a test, and that a declaration's rows stand one behind the other.
 use mathlib.Core.Path.{_≡_, refl, sym, ap, _∙_}
 use mathlib.Core.Logic.{_⊎_, inl, inr, _↔_}
 use mathlib.Core.List.{List, [], _∷_, _++_, map, map-append}

@@ -1,4 +1,4 @@
--- Where resolution refuses no name, every declaration's name is new and every reference known. Assumes nothing.
+-- Where resolution refuses no name, every declaration's name is new and every reference known.
 use mathlib.Core.Path.{_≡_, refl, sym, ap, _∙_}
 use mathlib.Core.List.{List, [], _∷_, _++_, map}
 use mathlib.Core.Option.{Option, none, some}

@@ -1,4 +1,4 @@
--- The table of forms: what holds of each line holds of the form of a word and of a kind. Assumes nothing.
+-- The table of forms: what holds of each line holds of the form of a word and of a kind.
 use mathlib.Core.Path.{_≡_, refl, subst}
 use mathlib.Core.List.{List, [], _∷_, map}
 use mathlib.Core.Option.{Option, none, some}

@@ -1,4 +1,4 @@
--- Document 01, "Plausible and mistaken", of scope: what small terms become, computed by the definitions. Assumes nothing.
+-- Document 01, "Plausible and mistaken", of scope: what small terms become, computed by the definitions.
 use mathlib.Core.Path.{_≡_, refl}
 use mathlib.Core.List.{List, [], _∷_, map}
 use Prim.Native.Nat.{ℕ}

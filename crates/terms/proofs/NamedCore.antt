@@ -1,4 +1,4 @@
--- The core of terms with names: resolution with bytes in place of spans, so that two sources can be compared. Assumes nothing.
+-- The core of terms with names: resolution with bytes in place of spans, so that two sources can be compared.
 use mathlib.Core.Path.{_≡_, refl, ap}
 use mathlib.Core.Logic.{ite, if-pos, if-neg}
 use mathlib.Core.List.{List, [], _∷_}

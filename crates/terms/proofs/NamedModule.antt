@@ -1,4 +1,4 @@
--- Modules with names: their cores, the contents of their rows and records, and that these determine the cores. Assumes nothing.
+-- Modules with names: their cores, the contents of their rows and records, and that these determine the cores.
 use mathlib.Core.Path.{_≡_, refl, sym, ap, _∙_}
 use mathlib.Core.Logic.{ite, by-cases}
 use mathlib.Core.List.{List, [], _∷_, _++_, head-eq-of-cons-eq, tail-eq-of-cons-eq}

@@ -1,4 +1,4 @@
--- Names in a list: where a name is found. Assumes nothing.
+-- Names in a list: where a name is found.
 use mathlib.Core.Path.{_≡_, refl, sym, ap, _∙_}
 use mathlib.Core.List.{List, [], _∷_}
 use mathlib.Core.Option.{Option, none, some}

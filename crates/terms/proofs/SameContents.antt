@@ -1,4 +1,4 @@
--- Two modules with names have the same contents of rows and records exactly if they agree. Assumes nothing.
+-- Two modules with names have the same contents of rows and records exactly if they agree.
 use mathlib.Core.Path.{_≡_, refl, sym, ap, _∙_}
 use mathlib.Core.Logic.{_↔_}
 use mathlib.Core.List.{List, [], _∷_, _++_, head-eq-of-cons-eq, tail-eq-of-cons-eq}

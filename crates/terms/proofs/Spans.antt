@@ -1,4 +1,4 @@
--- From spans to names: resolution, rows and records of a source are those of its module with names. Assumes nothing.
+-- From spans to names: resolution, rows and records of a source are those of its module with names.
 use mathlib.Core.Path.{_≡_, refl, sym, ap, _∙_, subst}
 use mathlib.Core.Logic.{by-cases}
 use mathlib.Core.List.{List, [], _∷_, _++_, map, map-append}

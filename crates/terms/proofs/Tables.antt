@@ -1,4 +1,4 @@
--- Rows of w words each as one list of words, which is what a lent table holds. Assumes nothing.
+-- Rows of w words each as one list of words, which is what a lent table holds.
 use mathlib.Core.Path.{_≡_, refl, sym, ap, _∙_, subst}
 use mathlib.Core.List.{List, [], _∷_, _++_}
 use Prim.Native.Nat.{ℕ, zero, suc, _+_, _-_, _*_, _<_, _≤_}

@@ -1,4 +1,4 @@
--- Rows have eight words and records five, and how many there are. Assumes nothing.
+-- Rows have eight words and records five, and how many there are.
 use mathlib.Core.Path.{_≡_, refl, sym, ap, _∙_}
 use mathlib.Core.List.{List, [], _∷_, _++_, map}
 use mathlib.Core.Bool.{cond}

@@ -1,4 +1,4 @@
--- Document 01, "The core module": what binds a reference, and when terms and declarations agree. Assumes nothing.
+-- Document 01, "The core module": what binds a reference, and when terms and declarations agree.
 use mathlib.Core.Path.{_≡_}
 use mathlib.Core.Logic.{_⊎_}
 use mathlib.Core.List.{List, [], _∷_, _++_}

@@ -1,4 +1,4 @@
--- Document 01, "The core module": what counts of a row and of a declaration record for *same core*. Assumes nothing.
+-- Document 01, "The core module": what counts of a row and of a declaration record for *same core*.
 use mathlib.Core.List.{List, [], _∷_}
 use mathlib.Core.Bool.{cond}
 use Prim.Native.Nat.{ℕ}

@@ -1,4 +1,4 @@
--- Document 01, "The core module": the rows of a declaration, and on which declarations it depends. Assumes nothing.
+-- Document 01, "The core module": the rows of a declaration, and on which declarations it depends.
 use mathlib.Core.Path.{_≡_}
 use mathlib.Core.Logic.{_⊎_}
 use mathlib.Core.List.{List, [], _∷_, _++_}

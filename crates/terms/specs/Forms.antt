@@ -1,4 +1,4 @@
--- Document 01, "The module read": the forms of terms as one table, and the kinds' numbers. Assumes nothing.
+-- Document 01, "The module read": the forms of terms as one table, and the kinds' numbers.
 use mathlib.Core.List.{List, [], _∷_}
 use mathlib.Core.Option.{Option, none, some}
 use mathlib.Core.Bool.{Bool, true, false}

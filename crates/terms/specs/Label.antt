@@ -1,4 +1,4 @@
--- What is kept of a term and of a declaration that is read: kinds, and places in the source. Assumes nothing.
+-- What is kept of a term and of a declaration that is read: kinds, and places in the source.
 use mathlib.Core.List.{List}
 use mathlib.Core.Option.{Option, none, some}
 use Prim.Native.Nat.{ℕ}

@@ -1,4 +1,4 @@
--- Document 01, "The core module": what each reference becomes, and the first name that is refused. Assumes nothing.
+-- Document 01, "The core module": what each reference becomes, and the first name that is refused.
 use mathlib.Core.List.{List, [], _∷_, _++_}
 use mathlib.Core.Option.{Option, none, some}
 use mathlib.Core.Bool.{Bool, true, false, _&&_, _||_, cond}

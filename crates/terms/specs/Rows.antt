@@ -1,4 +1,4 @@
--- Document 01, "The module read" and "The core module": rows of eight words and declaration records of five. Assumes nothing.
+-- Document 01, "The module read" and "The core module": rows of eight words and declaration records of five.
 use mathlib.Core.List.{List, [], _∷_, _++_, map}
 use mathlib.Core.Bool.{cond}
 use Prim.Native.Nat.{ℕ, zero, suc}

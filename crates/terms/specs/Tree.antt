@@ -1,4 +1,4 @@
--- Lists of trees with a label at each node, their places, and their nodes as rows in the order of completion. Assumes nothing.
+-- Lists of trees with a label at each node, their places, and their nodes as rows in the order of completion.
 use mathlib.Core.List.{List, [], _∷_, _++_}
 use mathlib.Core.Option.{Option, none, some}
 use Prim.Native.Nat.{ℕ, zero, suc}

@@ -1,4 +1,4 @@
--- The digits of a number, one place after the other. Assumes nothing.
+-- The digits of a number, one place after the other.
 use Prim.Native.Nat.{ℕ, zero, suc, _+_, _-_, _/_, _%_, _≤_, _<_}
 use mathlib.Core.Path.{_≡_, refl}
 use mathlib.Core.List.{[], _∷_, _++_}

@@ -1,4 +1,4 @@
--- The loop of `put`: bytes written one after the other. Assumes nothing.
+-- The loop of `put`: bytes written one after the other.
 use Prim.Native.Nat.{ℕ, suc, _+_, _≤_, _<_, min}
 use mathlib.Core.Path.{_≡_, refl, sym, ap, ap₂, _∙_}
 use mathlib.Core.List.{List, [], _∷_}

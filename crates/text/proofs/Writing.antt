@@ -1,4 +1,4 @@
--- Bytes written one piece after the other are the pieces' text written at once. Assumes nothing.
+-- Bytes written one piece after the other are the pieces' text written at once.
 use Prim.Native.Nat.{ℕ, zero, suc, _+_, _≤_, min}
 use mathlib.Core.Path.{_≡_, refl, sym, ap, subst, _∙_}
 use mathlib.Core.List.{List, [], _∷_, _++_, append-nil, append-assoc}

@@ -1,4 +1,4 @@
--- Text written into a lent buffer: bytes behind the buffer's end are dropped, and the length tells. Assumes nothing.
+-- Text written into a lent buffer: bytes behind the buffer's end are dropped, and the length tells.
 use Prim.Native.Nat.{ℕ, zero, suc, _+_, _/_, _%_, min}
 use mathlib.Core.Path.{_≡_}
 use mathlib.Core.Bool.{true, false}

@@ -1,4 +1,4 @@
--- A token stands at or behind the offset that it was asked at, within the source; the end token's offset is the source's length. Assumes nothing.
+-- A token stands at or behind the offset that it was asked at, within the source; the end token's offset is the source's length.
 use Prim.Native.Nat.{ℕ, _+_, _-_, _≤_, _<_}
 use mathlib.Core.Path.{_≡_}
 use mathlib.Core.Bool.{Bool, true, false}

@@ -1,4 +1,4 @@
--- What `byte-class` gives, from facts about the byte. Assumes nothing.
+-- What `byte-class` gives, from facts about the byte.
 use Prim.Native.Nat.{ℕ, _≤_, _<_}
 use mathlib.Core.Path.{_≡_, refl, sym, _∙_, ap}
 use mathlib.Core.Bool.{Bool, true, false, _||_, cond, true≢false}

@@ -1,4 +1,4 @@
--- A comment that is passed over in blocks. Assumes nothing.
+-- A comment that is passed over in blocks.
 use Prim.Native.Nat.{ℕ, zero, suc, _+_, _≤_, _<_}
 use mathlib.Core.Path.{_≡_, refl, sym, _∙_, ap}
 use mathlib.Core.Bool.{Bool, true, false, not, _&&_, and-true, and-false, and-assoc, and-eq-true-iff}

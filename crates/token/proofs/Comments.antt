@@ -1,4 +1,4 @@
--- A comment that is passed over at once: the layout goes on where it ends. Assumes nothing.
+-- A comment that is passed over at once: the layout goes on where it ends.
 use Prim.Native.Nat.{ℕ, _+_, _≤_, _<_}
 use mathlib.Core.Path.{_≡_, refl, sym, _∙_, ap}
 use mathlib.Core.Bool.{Bool, true, false}

@@ -1,4 +1,4 @@
--- One more byte of a run: the definitions at `drop i s`, by what stands at i. Assumes nothing.
+-- One more byte of a run: the definitions at `drop i s`, by what stands at i.
 use Prim.Native.Nat.{ℕ, _+_, _≤_, _<_}
 use mathlib.Core.Path.{_≡_, refl}
 use mathlib.Core.Bool.{Bool, true, false}

@@ -1,4 +1,4 @@
--- Ours: a comment by itself, which `skip_layout` passes over at once. Assumes nothing.
+-- Ours: a comment by itself, which `skip_layout` passes over at once.
 use Prim.Native.Nat.{ℕ, _+_, _≤_}
 use mathlib.Core.List.{List, [], _∷_}
 use mathlib.Core.Path.{_≡_}

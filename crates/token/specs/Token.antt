@@ -1,4 +1,4 @@
--- Document 01, "The token". Assumes nothing.
+-- Document 01, "The token".
 use Prim.Native.Nat.{ℕ, _+_}
 use mathlib.Core.List.{List, [], _∷_}
 use mathlib.Core.Bool.{Bool, true, false, _&&_, _||_, cond}

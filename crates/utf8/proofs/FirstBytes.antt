@@ -1,4 +1,4 @@
--- What table 3-7 says of all the bytes from one to another: antt computes the line of each. Assumes nothing.
+-- What table 3-7 says of all the bytes from one to another: antt computes the line of each.
 use Prim.Native.Nat.{ℕ, zero, suc, _+_, _-_, _≤_, _<_}
 use mathlib.Core.Path.{_≡_}
 use mathlib.Core.List.{List, [], _∷_}

@@ -1,4 +1,4 @@
--- `valid-length` is the length of the longest beginning that is well-formed UTF-8. Assumes nothing.
+-- `valid-length` is the length of the longest beginning that is well-formed UTF-8.
 use mathlib.Core.Path.{_≡_, refl}
 use mathlib.Core.Logic.{_⊎_, inl, inr}
 use mathlib.Core.List.{List, [], _∷_}

@@ -1,4 +1,4 @@
--- The bytes of the mark by their offsets. Assumes nothing.
+-- The bytes of the mark by their offsets.
 use Prim.Native.Nat.{ℕ, _≤_, _<_}
 use mathlib.Core.Path.{_≡_, refl}
 use mathlib.Core.Bool.{false, _&&_}

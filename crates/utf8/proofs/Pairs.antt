@@ -1,4 +1,4 @@
--- What the loop of `skip_pairs` knows: the sequences that it passed have two bytes each. Assumes nothing.
+-- What the loop of `skip_pairs` knows: the sequences that it passed have two bytes each.
 use Prim.Native.Nat.{ℕ, _+_, _≤_, _<_}
 use mathlib.Core.Path.{_≡_, refl, sym, _∙_, ap}
 use mathlib.Core.Bool.{Bool, true, false, true≢false, and-eq-true-iff}

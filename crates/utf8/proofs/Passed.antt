@@ -1,4 +1,4 @@
--- What the loop of `valid_up_to` knows of the bytes that it passed: they are whole sequences. Assumes nothing.
+-- What the loop of `valid_up_to` knows of the bytes that it passed: they are whole sequences.
 use Prim.Native.Nat.{ℕ, _+_, _≤_, _<_}
 use mathlib.Core.Path.{_≡_, refl, sym, _∙_, ap}
 use mathlib.Core.Bool.{Bool, true, false}

@@ -1,4 +1,4 @@
--- Runs of ASCII bytes: one more byte, and a block at once. Assumes nothing.
+-- Runs of ASCII bytes: one more byte, and a block at once.
 use Prim.Native.Nat.{ℕ, zero, suc, _+_, _≤_, _<_}
 use mathlib.Core.Path.{_≡_, refl, sym, _∙_, ap}
 use mathlib.Core.Bool.{Bool, true, false, _&&_, and-true, and-assoc, and-comm, and-eq-true-iff}

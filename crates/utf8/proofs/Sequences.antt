@@ -1,4 +1,4 @@
--- A sequence that is passed over at once, and the bytes of one by their offsets. Assumes nothing.
+-- A sequence that is passed over at once, and the bytes of one by their offsets.
 use Prim.Native.Nat.{ℕ, zero, suc, _+_, _≤_, _<_}
 use mathlib.Core.Path.{_≡_, refl, sym, _∙_, ap}
 use mathlib.Core.Bool.{Bool, true, false, _&&_, and-true, and-false, and-eq-true-iff, cond, true≢false}

@@ -1,4 +1,4 @@
--- `valid-from` behind one more byte and at the end, also where the sequence is broken. Assumes nothing.
+-- `valid-from` behind one more byte and at the end, also where the sequence is broken.
 use Prim.Native.Nat.{ℕ, _+_}
 use mathlib.Core.Path.{_≡_, refl}
 use mathlib.Core.Bool.{Bool, true, false, cond}

@@ -1,4 +1,4 @@
--- Ours: runs of ASCII bytes, which `valid_up_to` passes over in blocks. Assumes nothing.
+-- Ours: runs of ASCII bytes, which `valid_up_to` passes over in blocks.
 use mathlib.Core.Path.{_≡_}
 use mathlib.Core.List.{List, [], _∷_}
 use mathlib.Core.Bool.{Bool, true, false, _&&_}

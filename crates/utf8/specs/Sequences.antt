@@ -1,4 +1,4 @@
--- Ours: a sequence by itself, which `valid_up_to` passes over at once. Assumes nothing.
+-- Ours: a sequence by itself, which `valid_up_to` passes over at once.
 use mathlib.Core.Path.{_≡_}
 use mathlib.Core.List.{List, [], _∷_}
 use mathlib.Core.Option.{none, some}

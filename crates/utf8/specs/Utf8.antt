@@ -1,5 +1,5 @@
 -- Well-formed UTF-8: the Unicode standard, table 3-7. Document 01: "not UTF-8 (1 at the length of the longest valid beginning);
--- leading EF BB BF (1 at 0)". Assumes nothing.
+-- leading EF BB BF (1 at 0)".
 use mathlib.Core.Path.{_≡_}
 use mathlib.Core.List.{List, [], _∷_}
 use mathlib.Core.Option.{Option, none, some}

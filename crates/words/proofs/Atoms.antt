@@ -1,4 +1,4 @@
--- Identifiers and numerals byte by byte: `all p` at `drop i w`, by what stands at i, and the two tests by the first byte. Assumes nothing.
+-- Identifiers and numerals byte by byte: `all p` at `drop i w`, by what stands at i, and the two tests by the first byte.
 use Prim.Native.Nat.{ℕ, _+_, _≤_, _<_}
 use mathlib.Core.Path.{_≡_, refl, sym}
 use mathlib.Core.Bool.{Bool, true, false}

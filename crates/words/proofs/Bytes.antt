@@ -1,4 +1,4 @@
--- What the test of a range says, from facts about the byte. Assumes nothing.
+-- What the test of a range says, from facts about the byte.
 use Prim.Native.Nat.{ℕ, _≤_, _<_}
 use mathlib.Core.Path.{_≡_}
 use mathlib.Core.Bool.{true, false, and-false}

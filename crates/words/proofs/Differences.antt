@@ -1,4 +1,4 @@
--- The first difference behind equal bytes, and what it says of two atoms. Assumes nothing.
+-- The first difference behind equal bytes, and what it says of two atoms.
 use Prim.Native.Nat.{ℕ, suc, _+_, _≤_, _<_}
 use mathlib.Core.Path.{_≡_, refl, sym, _∙_, ap}
 use mathlib.Core.Bool.{Bool, true, false}

@@ -1,4 +1,4 @@
--- A test that every number below a bound passes, computed once for all of them. Assumes nothing.
+-- A test that every number below a bound passes, computed once for all of them.
 use Prim.Native.Nat.{ℕ, zero, suc, _<_}
 use mathlib.Core.Path.{_≡_, refl, _∙_, ap}
 use mathlib.Core.Bool.{Bool, true, false, _&&_}

@@ -1,4 +1,4 @@
--- The index of an atom from its number or its bytes, and 0 where it is none of the words that it could be. Assumes nothing.
+-- The index of an atom from its number or its bytes, and 0 where it is none of the words that it could be.
 use Prim.Native.Nat.{ℕ, zero, suc, _<_}
 use mathlib.Core.Path.{_≡_, refl, sym, _∙_, ap}
 use mathlib.Core.Bool.{Bool, true, false, not, _&&_, _||_, and-eq-true-iff, false≢true}

@@ -1,4 +1,4 @@
--- `same-bytes` is equality. Assumes nothing.
+-- `same-bytes` is equality.
 use Prim.Native.Nat.{ℕ}
 use mathlib.Core.Path.{_≡_, refl, sym, _∙_, ap}
 use mathlib.Core.Bool.{Bool, true, false, true≢false, false≢true}

@@ -1,4 +1,4 @@
--- The number of an atom determines it, and that of a short one fits 64 bits. Assumes nothing.
+-- The number of an atom determines it, and that of a short one fits 64 bits.
 use Prim.Native.Nat.{ℕ, zero, suc, _+_, _-_, _*_, _≤_, _<_}
 use mathlib.Core.Path.{_≡_, refl, sym, _∙_, ap}
 use mathlib.Core.List.{List, [], _∷_}

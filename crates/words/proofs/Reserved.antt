@@ -1,4 +1,4 @@
--- The reserved words by their index. Assumes nothing.
+-- The reserved words by their index.
 use Prim.Native.Nat.{ℕ, suc, _+_, _<_}
 use mathlib.Core.Path.{_≡_, refl, sym, _∙_, ap}
 use mathlib.Core.Bool.{Bool, true, false, not}

@@ -1,4 +1,4 @@
--- Ours: where two atoms of one length differ, by which `same_bytes` compares them. Assumes nothing.
+-- Ours: where two atoms of one length differ, by which `same_bytes` compares them.
 use Prim.Native.Nat.{ℕ, suc}
 use mathlib.Core.Bool.{true, false}
 use mathlib.Core.List.{List, [], _∷_}

@@ -1,4 +1,4 @@
--- Ours: an atom as a number, by which `word_index` tells short reserved words. Assumes nothing.
+-- Ours: an atom as a number, by which `word_index` tells short reserved words.
 use Prim.Native.Nat.{ℕ, _+_, _*_}
 use mathlib.Core.List.{List, [], _∷_}
 

@@ -1,4 +1,4 @@
--- Document 01, "The token": reserved words, identifiers, numerals, and equal names. Assumes nothing.
+-- Document 01, "The token": reserved words, identifiers, numerals, and equal names.
 use Prim.Native.Nat.{ℕ, _+_}
 use Prim.Native.Char.{code}
 use Prim.Native.String.{String}

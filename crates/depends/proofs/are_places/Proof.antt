@@ -1,4 +1,4 @@
--- `depends::are_places` meets its contract. Assumes nothing.
+-- `depends::are_places` meets its contract.
 use mathlib.Core.Path.{sym, ap}
 use mathlib.Core.Bool.{Bool, _&&_}
 use lib.Dec.{ltb}

@@ -1,4 +1,4 @@
--- `depends::clear_all` meets its contract. Assumes nothing.
+-- `depends::clear_all` meets its contract.
 use borrow.Author.Needs.{needs}
 use Rattle.depends.proofs.clear_all.Statement.{statement}
 use Rattle.depends.proofs.clear_all.Tie as tie

@@ -1,4 +1,4 @@
--- `depends::depends` meets its contract. Assumes nothing.
+-- `depends::depends` meets its contract.
 use mathlib.Core.Path.{sym, _∙_, subst}
 use Rattle.token.specs.declared.Refusal.{Refusal}
 use Rattle.surface.specs.declared.Dependence.{Dependence}

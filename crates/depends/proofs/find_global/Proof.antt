@@ -1,4 +1,4 @@
--- `depends::find_global` meets its contract. Assumes nothing.
+-- `depends::find_global` meets its contract.
 use mathlib.Core.Path.{_≡_, refl, sym, ap, _∙_}
 use native.Mathlib.Omega.{arith}
 use borrow.Author.Needs.{needs}

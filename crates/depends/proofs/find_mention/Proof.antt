@@ -1,4 +1,4 @@
--- `depends::find_mention` meets its contract. Assumes nothing.
+-- `depends::find_mention` meets its contract.
 use Rattle.depends.proofs.Searching.{mention-is}
 use borrow.Author.Needs.{needs}
 use Rattle.depends.proofs.find_mention.Statement.{statement}

@@ -1,4 +1,4 @@
--- `depends::first_row` meets its contract. Assumes nothing.
+-- `depends::first_row` meets its contract.
 use native.Mathlib.Omega.{arith}
 use mathlib.Core.Path.{_≡_, sym, ap, _∙_}
 use Rattle.depends.proofs.Searching.{first-zero, first-after}

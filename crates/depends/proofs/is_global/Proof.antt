@@ -1,4 +1,4 @@
--- `depends::is_global` meets its contract. Assumes nothing.
+-- `depends::is_global` meets its contract.
 use native.Mathlib.Omega.{arith}
 use Prim.Native.Nat.{ℕ}
 use lib.Dec.{eqb}

@@ -1,4 +1,4 @@
--- `depends::refused_by_loading` meets its contract. Assumes nothing.
+-- `depends::refused_by_loading` meets its contract.
 use mathlib.Core.Path.{refl}
 use Rattle.depends.proofs.refused_by_loading.Statement.{statement}
 use Rattle.depends.proofs.refused_by_loading.Tie as tie

@@ -1,4 +1,4 @@
--- `depends::row_behind` meets its contract. Assumes nothing.
+-- `depends::row_behind` meets its contract.
 use native.Mathlib.Omega.{arith}
 use Prim.Native.Nat.{ℕ, _+_}
 use mathlib.Core.Path.{_≡_, sym, ap, _∙_}

@@ -1,4 +1,4 @@
--- How the rows of a declaration are searched in a core table and a declaration list. Assumes nothing.
+-- How the rows of a declaration are searched in a core table and a declaration list.
 use mathlib.Core.Bool.{Bool, true, false, _&&_}
 use mathlib.Core.List.{List}
 use Prim.Native.Nat.{ℕ, zero, suc, _+_, _-_, _*_, max}

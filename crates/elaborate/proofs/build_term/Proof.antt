@@ -1,4 +1,4 @@
--- `build_term` meets its contract. Assumes nothing.
+-- `build_term` meets its contract.
 use mathlib.Core.Path.{ap, _∙_}
 use lib.ListN.{length, drop}
 use Prim.Native.Nat.{_+_, _-_}

@@ -1,4 +1,4 @@
--- `covers` meets its contract. Assumes nothing.
+-- `covers` meets its contract.
 use mathlib.Core.Path.{sym}
 use mathlib.Core.Logic.{inl, inr}
 use Rattle.elaborate.proofs.Covering.{covers-second, covers-first, covers-none}

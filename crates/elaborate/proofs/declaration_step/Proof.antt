@@ -1,4 +1,4 @@
--- `declaration_step` meets its contract. Assumes nothing.
+-- `declaration_step` meets its contract.
 use mathlib.Core.Path.{subst, _∙_}
 use Rattle.scope.specs.Index.{Searched}
 use Rattle.elaborate.proofs.Answers.{duplicate, declared, undeclared, not-done}

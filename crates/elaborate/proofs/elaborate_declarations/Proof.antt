@@ -1,4 +1,4 @@
--- `elaborate_declarations` meets its contract: what all declarations come to is what the rest comes to. Assumes nothing.
+-- `elaborate_declarations` meets its contract: what all declarations come to is what the rest comes to.
 use Prim.Native.Nat.{_-_, _≤_}
 use mathlib.Core.Path.{_≡_, refl, sym, _∙_}
 use mathlib.Core.List.{List}

@@ -1,4 +1,4 @@
--- `elaborate_parts` meets its contract. Assumes nothing.
+-- `elaborate_parts` meets its contract.
 use Prim.Native.Nat.{_+_, _*_}
 use lib.ListN.{getD}
 use Rattle.elaborate.proofs.Answers.{when-done, when-unknown, postulated, type-unknown, body-answered}

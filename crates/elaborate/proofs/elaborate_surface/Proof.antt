@@ -1,4 +1,4 @@
--- `elaborate_surface` meets its contract. Assumes nothing.
+-- `elaborate_surface` meets its contract.
 use native.Mathlib.Omega.{arith}
 use Rattle.scope.specs.Index.{all-slots}
 use Rattle.elaborate.proofs.Answers.{whether-so, whether-not, blank}

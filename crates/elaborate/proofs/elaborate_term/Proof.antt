@@ -1,4 +1,4 @@
--- `elaborate_term` meets its contract: the whole outcome is what the state and the tables come to. Assumes nothing.
+-- `elaborate_term` meets its contract: the whole outcome is what the state and the tables come to.
 use mathlib.Core.Path.{_≡_, refl, sym, _∙_, subst}
 use native.Mathlib.Omega.{arith}
 use lib.ListN.{length}

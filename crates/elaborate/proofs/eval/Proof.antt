@@ -1,4 +1,4 @@
--- `eval` meets its contract. Assumes nothing.
+-- `eval` meets its contract.
 use Prim.Native.Nat.{_-_}
 use mathlib.Core.Path.{sym, _∙_}
 use native.Mathlib.Omega.{arith}

@@ -1,4 +1,4 @@
--- `eval_reference` meets its contract. Assumes nothing.
+-- `eval_reference` meets its contract.
 use mathlib.Core.Path.{refl, sym, ap, _∙_}
 use native.Mathlib.Omega.{arith}
 use Rattle.terms.specs.Resolution.{is-unknown}

@@ -1,4 +1,4 @@
--- `fitting` meets its contract. Assumes nothing.
+-- `fitting` meets its contract.
 use native.Mathlib.Omega.{arith}
 use Rattle.elaborate.proofs.Answers.{whether-fitting}
 use borrow.Author.Needs.{needs}

@@ -1,4 +1,4 @@
--- `form_row` meets its contract. Assumes nothing.
+-- `form_row` meets its contract.
 use Prim.Native.Nat.{ℕ}
 use mathlib.Core.Path.{ap}
 use mathlib.Core.List.{List, [], _∷_, _++_}

@@ -1,4 +1,4 @@
--- `row_children` meets its contract. Assumes nothing.
+-- `row_children` meets its contract.
 use mathlib.Core.Path.{sym, ap}
 use Rattle.elaborate.specs.RowTerm.{six-at}
 use borrow.Author.Needs.{needs}

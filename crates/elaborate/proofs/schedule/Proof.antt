@@ -1,4 +1,4 @@
--- `schedule` meets its contract: the arguments from i on are pushed. Assumes nothing.
+-- `schedule` meets its contract: the arguments from i on are pushed.
 use Prim.Native.Nat.{_+_, _*_, _≤_}
 use mathlib.Core.Path.{_≡_, refl, _∙_}
 use native.Mathlib.Omega.{arith}

@@ -1,4 +1,4 @@
--- `schedule_form` meets its contract. Assumes nothing.
+-- `schedule_form` meets its contract.
 use Prim.Native.Nat.{ℕ}
 use mathlib.Core.Path.{refl, ap, ap₂, _∙_}
 use mathlib.Core.List.{List}

@@ -1,4 +1,4 @@
--- `schedule_one` meets its contract. Assumes nothing.
+-- `schedule_one` meets its contract.
 use native.Mathlib.Omega.{arith}
 use Rattle.elaborate.proofs.Scheduling.{one-covered, one-plain}
 use borrow.Author.Needs.{needs}

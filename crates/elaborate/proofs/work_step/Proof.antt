@@ -1,4 +1,4 @@
--- `work_step` meets its contract. Assumes nothing.
+-- `work_step` meets its contract.
 use native.Mathlib.Omega.{arith}
 use Rattle.elaborate.specs.declared.Step.{Step}
 use Rattle.elaborate.proofs.Steps.{as-state, top-item, top-room, top-stepped, top-fits, build-bounds, push-bound, pop-bound, build-stepped, push-stepped, pop-stepped}

@@ -1,4 +1,4 @@
--- `expects::arity_at` meets its contract: its digits are the arities of the words from 7 on. Assumes nothing.
+-- `expects::arity_at` meets its contract: its digits are the arities of the words from 7 on.
 use mathlib.Core.Path.{refl}
 use native.Mathlib.Omega.{arith}
 use Rattle.words.specs.Words.{same-bytes, reserved-words}

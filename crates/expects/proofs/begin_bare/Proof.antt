@@ -1,4 +1,4 @@
--- `expects::begin_bare` meets its contract. Assumes nothing.
+-- `expects::begin_bare` meets its contract.
 use Rattle.expects.proofs.Terms.{bare-leaf, bare-refused}
 use borrow.Author.Needs.{needs}
 use Rattle.expects.proofs.begin_bare.Statement.{statement}

@@ -1,4 +1,4 @@
--- `expects::begin_form` meets its contract. Assumes nothing.
+-- `expects::begin_form` meets its contract.
 use Rattle.expects.proofs.Ahead.{atom-inside}
 use Rattle.expects.proofs.Terms.{form-refused, form-got}
 use borrow.Author.Needs.{needs}

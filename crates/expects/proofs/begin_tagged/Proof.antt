@@ -1,4 +1,4 @@
--- `expects::begin_tagged` meets its contract. Assumes nothing.
+-- `expects::begin_tagged` meets its contract.
 use Rattle.expects.proofs.Ahead.{natural-inside, name-inside, inside-got}
 use Rattle.expects.proofs.Terms.{name-leaf, numeral-leaf, binder-refused, binder-frame, plain-frame, tag-refused}
 use borrow.Author.Needs.{needs}

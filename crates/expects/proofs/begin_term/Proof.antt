@@ -1,4 +1,4 @@
--- `expects::begin_term` meets its contract. Assumes nothing.
+-- `expects::begin_term` meets its contract.
 use Prim.Native.Nat.{ℕ}
 use mathlib.Core.Path.{_≡_, sym, _∙_}
 use mathlib.Core.List.{[], _∷_}

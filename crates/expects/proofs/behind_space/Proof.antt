@@ -1,4 +1,4 @@
--- `expects::behind_space` meets its contract. Assumes nothing.
+-- `expects::behind_space` meets its contract.
 use mathlib.Core.Path.{refl}
 use Rattle.expects.proofs.Tokens.{space-here}
 use borrow.Author.Needs.{needs}

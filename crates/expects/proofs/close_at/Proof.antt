@@ -1,4 +1,4 @@
--- `expects::close_at` meets its contract. Assumes nothing.
+-- `expects::close_at` meets its contract.
 use Rattle.expects.proofs.Tokens.{close-here}
 use borrow.Author.Needs.{needs}
 use Rattle.expects.proofs.close_at.Statement.{statement}

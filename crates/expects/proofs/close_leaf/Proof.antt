@@ -1,4 +1,4 @@
--- `expects::close_leaf` meets its contract. Assumes nothing.
+-- `expects::close_leaf` meets its contract.
 use Rattle.expects.proofs.Ahead.{inside-got}
 use Rattle.expects.proofs.Terms.{leaf-refused, leaf-unclosed, leaf-got}
 use borrow.Author.Needs.{needs}

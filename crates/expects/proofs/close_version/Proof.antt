@@ -1,4 +1,4 @@
--- `expects::close_version` meets its contract. Assumes nothing.
+-- `expects::close_version` meets its contract.
 use mathlib.Core.Path.{sym, _∙_}
 use Rattle.expects.proofs.Lines.{version-got, version-not, version-refused}
 use borrow.Author.Needs.{needs}

@@ -1,4 +1,4 @@
--- `expects::declaration_kind` meets its contract: the words of declarations stand in the order of their kinds. Assumes nothing.
+-- `expects::declaration_kind` meets its contract: the words of declarations stand in the order of their kinds.
 use Prim.Native.Nat.{_-_}
 use mathlib.Core.Path.{refl, _∙_}
 use native.Mathlib.Omega.{arith}

@@ -1,4 +1,4 @@
--- `expects::expect_atom` meets its contract. Assumes nothing.
+-- `expects::expect_atom` meets its contract.
 use mathlib.Core.Path.{sym, _∙_}
 use native.Mathlib.Omega.{arith}
 use Rattle.expects.proofs.Ahead.{atom-inside}

@@ -1,4 +1,4 @@
--- `expects::expect_kind` meets its contract. Assumes nothing.
+-- `expects::expect_kind` meets its contract.
 use mathlib.Core.Path.{sym, _∙_}
 use Rattle.expects.proofs.Tokens.{kind-got, kind-not, kind-refused}
 use borrow.Author.Needs.{needs}

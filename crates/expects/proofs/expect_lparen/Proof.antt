@@ -1,4 +1,4 @@
--- `expects::expect_lparen` meets its contract. Assumes nothing.
+-- `expects::expect_lparen` meets its contract.
 use mathlib.Core.Path.{_∙_}
 use Rattle.expects.proofs.Tokens.{opening-kind}
 use borrow.Author.Needs.{needs}

@@ -1,4 +1,4 @@
--- `expects::expect_rparen` meets its contract. Assumes nothing.
+-- `expects::expect_rparen` meets its contract.
 use mathlib.Core.Path.{_∙_}
 use Rattle.expects.proofs.Tokens.{closing-kind}
 use borrow.Author.Needs.{needs}

@@ -1,4 +1,4 @@
--- `expects::expect_tag` meets its contract. Assumes nothing.
+-- `expects::expect_tag` meets its contract.
 use Rattle.expects.proofs.Lines.{tag-got, tag-refused}
 use borrow.Author.Needs.{needs}
 use Rattle.expects.proofs.expect_tag.Statement.{statement}

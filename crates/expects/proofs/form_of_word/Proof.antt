@@ -1,4 +1,4 @@
--- `expects::form_of_word` meets its contract. Assumes nothing.
+-- `expects::form_of_word` meets its contract.
 use Rattle.expects.proofs.Formats.{word-forms}
 use borrow.Author.Needs.{needs}
 use Rattle.expects.proofs.form_of_word.Statement.{statement}

@@ -1,4 +1,4 @@
--- `expects::is_supported` meets its contract. Assumes nothing.
+-- `expects::is_supported` meets its contract.
 use mathlib.Core.Path.{sym, _∙_}
 use borrow.Author.Tests.{not-true, not-false}
 use borrow.Author.Needs.{needs}

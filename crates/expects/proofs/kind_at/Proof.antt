@@ -1,4 +1,4 @@
--- `expects::kind_at` meets its contract: the words from 7 on stand in the order of their kinds. Assumes nothing.
+-- `expects::kind_at` meets its contract: the words from 7 on stand in the order of their kinds.
 use Prim.Native.Nat.{_-_}
 use mathlib.Core.Path.{refl, sym, ap}
 use native.Mathlib.Omega.{arith}

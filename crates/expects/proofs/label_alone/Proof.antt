@@ -1,4 +1,4 @@
--- `expects::label_alone` meets its contract. Assumes nothing.
+-- `expects::label_alone` meets its contract.
 use borrow.Author.Needs.{needs}
 use Rattle.expects.proofs.label_alone.Statement.{statement}
 use Rattle.expects.proofs.label_alone.Tie as tie

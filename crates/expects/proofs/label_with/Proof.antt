@@ -1,4 +1,4 @@
--- `expects::label_with` meets its contract. Assumes nothing.
+-- `expects::label_with` meets its contract.
 use native.Mathlib.Omega.{arith}
 use borrow.Author.Needs.{needs}
 use Rattle.expects.proofs.label_with.Statement.{statement}

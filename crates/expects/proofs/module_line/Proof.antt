@@ -1,4 +1,4 @@
--- `expects::module_line` meets its contract. Assumes nothing.
+-- `expects::module_line` meets its contract.
 use Rattle.expects.proofs.Lines.{module-refused, name-refused, close-refused, module-got}
 use borrow.Author.Needs.{needs}
 use Rattle.expects.proofs.module_line.Statement.{statement}

@@ -1,4 +1,4 @@
--- `expects::name_test` meets its contract. Assumes nothing.
+-- `expects::name_test` meets its contract.
 use Rattle.expects.proofs.Formats.{name-tests}
 use borrow.Author.Needs.{needs}
 use Rattle.expects.proofs.name_test.Statement.{statement}

@@ -1,4 +1,4 @@
--- `expects::next_atom` meets its contract. Assumes nothing.
+-- `expects::next_atom` meets its contract.
 use mathlib.Core.Path.{_∙_}
 use Rattle.expects.proofs.Tokens.{atom-kind}
 use borrow.Author.Needs.{needs}

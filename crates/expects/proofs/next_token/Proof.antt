@@ -1,4 +1,4 @@
--- `expects::next_token` meets its contract. Assumes nothing.
+-- `expects::next_token` meets its contract.
 use mathlib.Core.Path.{_∙_}
 use borrow.Author.Needs.{needs}
 use Rattle.expects.proofs.next_token.Statement.{statement}

@@ -1,4 +1,4 @@
--- `expects::open_at` meets its contract. Assumes nothing.
+-- `expects::open_at` meets its contract.
 use Rattle.expects.proofs.Tokens.{open-here}
 use borrow.Author.Needs.{needs}
 use Rattle.expects.proofs.open_at.Statement.{statement}

@@ -1,4 +1,4 @@
--- `expects::parse_identifier` meets its contract. Assumes nothing.
+-- `expects::parse_identifier` meets its contract.
 use mathlib.Core.Path.{sym, _∙_, ap}
 use native.Mathlib.Omega.{arith}
 use Rattle.surface.specs.Reader.{refused}

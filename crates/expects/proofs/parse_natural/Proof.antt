@@ -1,4 +1,4 @@
--- `expects::parse_natural` meets its contract. Assumes nothing.
+-- `expects::parse_natural` meets its contract.
 use mathlib.Core.Path.{sym, _∙_}
 use native.Mathlib.Omega.{arith}
 use Rattle.expects.proofs.Ahead.{atom-inside}

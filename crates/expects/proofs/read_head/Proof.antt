@@ -1,4 +1,4 @@
--- `expects::read_head` meets its contract. Assumes nothing.
+-- `expects::read_head` meets its contract.
 use Rattle.expects.proofs.Lines.{head-refused, head-got}
 use borrow.Author.Needs.{needs}
 use Rattle.expects.proofs.read_head.Statement.{statement}

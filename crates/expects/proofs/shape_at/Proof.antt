@@ -1,4 +1,4 @@
--- `expects::shape_at` meets its contract: its digits are the shapes of the words from 7 on. Assumes nothing.
+-- `expects::shape_at` meets its contract: its digits are the shapes of the words from 7 on.
 use mathlib.Core.Path.{refl, sym, ap}
 use native.Mathlib.Omega.{arith}
 use Rattle.words.specs.Words.{same-bytes, reserved-words}

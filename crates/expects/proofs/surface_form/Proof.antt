@@ -1,4 +1,4 @@
--- `expects::surface_form` meets its contract. Assumes nothing.
+-- `expects::surface_form` meets its contract.
 use mathlib.Core.Path.{_∙_}
 use Rattle.expects.proofs.Indices.{index-low, form-by-index}
 use borrow.Author.Needs.{needs}

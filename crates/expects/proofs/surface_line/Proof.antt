@@ -1,4 +1,4 @@
--- `expects::surface_line` meets its contract. Assumes nothing.
+-- `expects::surface_line` meets its contract.
 use Rattle.expects.proofs.Ahead.{natural-inside, inside-got}
 use Rattle.expects.proofs.Lines.{surface-refused, major-refused, minor-refused, surface-got}
 use borrow.Author.Needs.{needs}

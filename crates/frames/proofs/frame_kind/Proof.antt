@@ -1,4 +1,4 @@
--- `frames::frame_kind` meets its contract. Assumes nothing.
+-- `frames::frame_kind` meets its contract.
 use Prim.Native.Nat.{ℕ, _*_}
 use mathlib.Core.Path.{ap, _∙_}
 use native.Mathlib.Nat.{add-zero}

@@ -1,4 +1,4 @@
--- `frames::load_args` meets its contract. Assumes nothing.
+-- `frames::load_args` meets its contract.
 use mathlib.Core.List.{[], _∷_}
 use borrow.Author.Needs.{needs}
 use Rattle.frames.proofs.load_args.Statement.{statement}

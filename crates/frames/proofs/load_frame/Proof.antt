@@ -1,4 +1,4 @@
--- `frames::load_frame` meets its contract. Assumes nothing.
+-- `frames::load_frame` meets its contract.
 use borrow.Author.Needs.{needs}
 use Rattle.frames.proofs.load_frame.Statement.{statement}
 use Rattle.frames.proofs.load_frame.Tie as tie

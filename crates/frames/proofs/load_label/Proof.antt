@@ -1,4 +1,4 @@
--- `frames::load_label` meets its contract. Assumes nothing.
+-- `frames::load_label` meets its contract.
 use Prim.Native.Nat.{ℕ, _*_}
 use mathlib.Core.Path.{ap, _∙_}
 use native.Mathlib.Nat.{add-zero}

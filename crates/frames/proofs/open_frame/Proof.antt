@@ -1,4 +1,4 @@
--- `frames::open_frame` meets its contract. Assumes nothing.
+-- `frames::open_frame` meets its contract.
 use Rattle.frames.specs.Frames.{opened}
 use borrow.Author.Needs.{needs}
 use Rattle.frames.proofs.open_frame.Statement.{statement}

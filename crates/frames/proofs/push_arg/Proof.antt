@@ -1,4 +1,4 @@
--- `frames::push_arg` meets its contract. Assumes nothing.
+-- `frames::push_arg` meets its contract.
 use mathlib.Core.Path.{refl}
 use native.Mathlib.Omega.{arith}
 use lib.ListN.{length-set}

@@ -1,5 +1,5 @@
 -- `lexer::lex` meets its contract: a walk of its MIR, by hand. A lexer is made in a local and lent to `next_token` for a lifetime within the source's; then its position is read.
--- All that the proof knows of `next_token` is that it meets its contract. Assumes nothing.
+-- All that the proof knows of `next_token` is that it meets its contract.
 use mathlib.Core.Path.{_≡_, refl, ap, subst, _∙_}
 use Prim.Native.Nat.{ℕ, _<_, _^_}
 use mathlib.Core.List.{List, [], _∷_}

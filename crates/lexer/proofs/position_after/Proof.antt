@@ -1,4 +1,4 @@
--- `lexer::position_after` meets its contract, case by case. Assumes nothing.
+-- `lexer::position_after` meets its contract, case by case.
 use borrow.Author.Needs.{needs}
 use Rattle.lexer.proofs.position_after.Statement.{statement}
 use Rattle.lexer.proofs.position_after.Tie as tie

@@ -1,4 +1,4 @@
--- `lexer::step` meets its contract: the position is that of what `next_token` gives. Assumes nothing.
+-- `lexer::step` meets its contract: the position is that of what `next_token` gives.
 use borrow.Author.Needs.{needs}
 use Rattle.lexer.proofs.step.Statement.{statement}
 use Rattle.lexer.proofs.step.Tie as tie

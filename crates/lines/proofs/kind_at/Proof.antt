@@ -1,4 +1,4 @@
--- `lines::kind_at` meets its contract. Assumes nothing.
+-- `lines::kind_at` meets its contract.
 use borrow.Author.Needs.{needs}
 use Rattle.lines.proofs.KindWords.{kinds, kind-right, none-right}
 use Rattle.lines.proofs.kind_at.Statement.{statement}

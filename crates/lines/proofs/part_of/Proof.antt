@@ -1,4 +1,4 @@
--- `lines::part_of` meets its contract. Assumes nothing.
+-- `lines::part_of` meets its contract.
 use borrow.Author.Needs.{needs}
 use Rattle.lines.proofs.Parts.{part-behind, part-cut, part-whole}
 use Rattle.lines.proofs.part_of.Statement.{statement}

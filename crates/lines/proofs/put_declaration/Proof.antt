@@ -1,4 +1,4 @@
--- `lines::put_declaration` meets its contract. Assumes nothing.
+-- `lines::put_declaration` meets its contract.
 use Prim.Native.Nat.{ℕ, _+_, _*_}
 use mathlib.Core.List.{List, [], _∷_}
 use mathlib.Core.Path.{_≡_, ap, ap₂, _∙_}

@@ -1,4 +1,4 @@
--- `lines::put_declaration_rows` meets its contract. Assumes nothing.
+-- `lines::put_declaration_rows` meets its contract.
 use mathlib.Core.Path.{sym, _∙_}
 use borrow.Author.Needs.{needs}
 use Rattle.lines.proofs.Rows.{rows-one, rows-two}

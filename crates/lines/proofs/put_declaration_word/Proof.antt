@@ -1,4 +1,4 @@
--- `lines::put_declaration_word` meets its contract. Assumes nothing.
+-- `lines::put_declaration_word` meets its contract.
 use borrow.Author.Tests.{ne-eqb}
 use borrow.Author.Needs.{needs}
 use Rattle.lines.specs.Listing.{declaration-word}

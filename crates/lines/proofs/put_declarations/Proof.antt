@@ -1,4 +1,4 @@
--- `lines::put_declarations` meets its contract. Assumes nothing.
+-- `lines::put_declarations` meets its contract.
 use Prim.Native.Nat.{ℕ, _-_, _≤_}
 use mathlib.Core.List.{[]}
 use mathlib.Core.Path.{_≡_, sym, ap}

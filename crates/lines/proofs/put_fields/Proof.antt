@@ -1,4 +1,4 @@
--- `lines::put_fields` meets its contract. Assumes nothing.
+-- `lines::put_fields` meets its contract.
 use mathlib.Core.Path.{sym, _∙_}
 use borrow.Author.Needs.{needs}
 use Rattle.lines.proofs.Rows.{fields-span, fields-numbers}

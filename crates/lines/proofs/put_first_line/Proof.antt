@@ -1,4 +1,4 @@
--- `lines::put_first_line` meets its contract. Assumes nothing.
+-- `lines::put_first_line` meets its contract.
 use mathlib.Core.List.{[], _∷_}
 use borrow.Author.Needs.{needs}
 use Rattle.words.specs.Words.{ascii}

@@ -1,4 +1,4 @@
--- `lines::put_kind_word` meets its contract. Assumes nothing.
+-- `lines::put_kind_word` meets its contract.
 use borrow.Author.Needs.{needs}
 use Rattle.lines.specs.KindWords.{words}
 use Rattle.lines.proofs.put_kind_word.Statement.{statement}

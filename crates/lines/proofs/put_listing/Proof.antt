@@ -1,4 +1,4 @@
--- `lines::put_listing` meets its contract. Assumes nothing.
+-- `lines::put_listing` meets its contract.
 use borrow.Author.Needs.{needs}
 use Rattle.text.proofs.Writing.{piece, put-behind, _then_}
 use Rattle.lines.specs.Listing.{first-line, row-lines, declaration-lines, listing}

@@ -1,4 +1,4 @@
--- `lines::put_number` meets its contract. Assumes nothing.
+-- `lines::put_number` meets its contract.
 use mathlib.Core.List.{[], _∷_}
 use borrow.Author.Needs.{needs}
 use Rattle.text.proofs.Writing.{piece, ensured, _then_}

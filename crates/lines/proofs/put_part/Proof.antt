@@ -1,4 +1,4 @@
--- `lines::put_part` meets its contract. Assumes nothing.
+-- `lines::put_part` meets its contract.
 use borrow.Author.Needs.{needs}
 use Rattle.lines.proofs.put_part.Statement.{statement}
 use Rattle.lines.proofs.put_part.Tie as tie

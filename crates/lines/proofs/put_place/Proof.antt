@@ -1,4 +1,4 @@
--- `lines::put_place` meets its contract. Assumes nothing.
+-- `lines::put_place` meets its contract.
 use borrow.Author.Needs.{needs}
 use Rattle.words.specs.Words.{ascii}
 use Rattle.text.proofs.Writing.{piece, ensured, _then_}

@@ -1,4 +1,4 @@
--- `lines::put_row` meets its contract. Assumes nothing.
+-- `lines::put_row` meets its contract.
 use Prim.Native.Nat.{ℕ, _*_}
 use mathlib.Core.Path.{_≡_, _∙_, ap}
 use mathlib.Core.List.{List, [], _∷_}

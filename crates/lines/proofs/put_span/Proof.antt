@@ -1,4 +1,4 @@
--- `lines::put_span` meets its contract. Assumes nothing.
+-- `lines::put_span` meets its contract.
 use mathlib.Core.List.{[], _∷_}
 use borrow.Author.Needs.{needs}
 use Rattle.terms.specs.Label.{part}

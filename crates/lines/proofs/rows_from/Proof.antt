@@ -1,4 +1,4 @@
--- `lines::rows_from` meets its contract. Assumes nothing.
+-- `lines::rows_from` meets its contract.
 use native.Mathlib.Omega.{arith}
 use borrow.Author.Needs.{needs}
 use Rattle.lines.proofs.Parts.{rows-none, rows-behind, rows-fit, rows-rest}

@@ -1,4 +1,4 @@
--- `lister::list` meets its contract: the text is made of what loading leaves. Assumes nothing.
+-- `lister::list` meets its contract: the text is made of what loading leaves.
 use mathlib.Core.Path.{_≡_, ap, _∙_}
 use mathlib.Core.List.{List}
 use lib.ListN.{length}

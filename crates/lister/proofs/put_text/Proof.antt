@@ -1,4 +1,4 @@
--- `lister::put_text` meets its contract: a line for a refusal, a listing for a loaded module. Assumes nothing.
+-- `lister::put_text` meets its contract: a line for a refusal, a listing for a loaded module.
 use mathlib.Core.Path.{_≡_, sym, subst}
 use lib.ListN.{length}
 use Rattle.surface.specs.declared.Answer.{Answer}

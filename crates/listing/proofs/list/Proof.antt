@@ -1,4 +1,4 @@
--- `listing::list` meets its contract: the lister's, with tables of the lengths that document 01 gives. Assumes nothing.
+-- `listing::list` meets its contract: the lister's, with tables of the lengths that document 01 gives.
 use Prim.Native.Nat.{ℕ}
 use mathlib.Core.Path.{_≡_, ap, _∙_}
 use mathlib.Core.List.{List}

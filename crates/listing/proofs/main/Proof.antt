@@ -1,4 +1,4 @@
--- `listing::main` is safe: what was read lies within the buffer. Assumes nothing.
+-- `listing::main` is safe: what was read lies within the buffer.
 use mathlib.Core.Path.{sym}
 use native.Mathlib.Omega.{arith}
 use lib.Seq.{length-take-le}

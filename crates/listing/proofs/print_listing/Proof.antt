@@ -1,4 +1,4 @@
--- `listing::print_listing` is safe: what is written is within the text's buffer, since every text fits it. Assumes nothing.
+-- `listing::print_listing` is safe: what is written is within the text's buffer, since every text fits it.
 use mathlib.Core.Path.{sym}
 use native.Mathlib.Omega.{arith}
 use lib.Seq.{length-take-le}

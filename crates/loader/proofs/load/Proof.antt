@@ -1,4 +1,4 @@
--- `loader::load` meets its contract. Assumes nothing.
+-- `loader::load` meets its contract.
 use Prim.Native.Nat.{ℕ, _*_}
 use mathlib.Core.Path.{ap, _∙_}
 use Rattle.tables.specs.Tables.{cleared}

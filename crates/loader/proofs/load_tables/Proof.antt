@@ -1,4 +1,4 @@
--- `loader::load_tables` meets its contract. Assumes nothing.
+-- `loader::load_tables` meets its contract.
 use Rattle.loader.proofs.Stored.{refused-stores, resolved-stores}
 use borrow.Author.Needs.{needs}
 use Rattle.loader.proofs.load_tables.Statement.{statement}

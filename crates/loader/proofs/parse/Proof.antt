@@ -1,4 +1,4 @@
--- `loader::parse` meets its contract. Assumes nothing.
+-- `loader::parse` meets its contract.
 use Prim.Native.Nat.{_≤_}
 use mathlib.Core.Path.{_≡_, sym, ap, _∙_}
 use mathlib.Core.List.{[]}

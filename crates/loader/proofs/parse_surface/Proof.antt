@@ -1,4 +1,4 @@
--- `loader::parse_surface` meets its contract. Assumes nothing.
+-- `loader::parse_surface` meets its contract.
 use Prim.Native.Nat.{ℕ, _*_}
 use mathlib.Core.Path.{ap, _∙_}
 use native.Mathlib.Omega.{arith}

@@ -1,4 +1,4 @@
--- `loader::resolve` meets its contract. Assumes nothing.
+-- `loader::resolve` meets its contract.
 use Prim.Native.Nat.{_*_, _≤_}
 use mathlib.Core.Path.{_≡_, sym, ap, subst}
 use mathlib.Core.List.{List, []}

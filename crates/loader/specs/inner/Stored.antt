@@ -1,4 +1,4 @@
--- What the parts of `load` store, before the tables are cleared behind it. Assumes nothing.
+-- What the parts of `load` store, before the tables are cleared behind it.
 use mathlib.Core.Path.{_≡_}
 use mathlib.Core.List.{List, []}
 use mathlib.Core.Option.{Option, none, some}

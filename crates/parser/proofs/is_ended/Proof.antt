@@ -1,4 +1,4 @@
--- `parser::is_ended` meets its contract. Assumes nothing.
+-- `parser::is_ended` meets its contract.
 use borrow.Author.Needs.{needs}
 use Rattle.parser.proofs.is_ended.Statement.{statement}
 use Rattle.parser.proofs.is_ended.Tie as tie

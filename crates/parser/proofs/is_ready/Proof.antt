@@ -1,4 +1,4 @@
--- `parser::is_ready` meets its contract. Assumes nothing.
+-- `parser::is_ready` meets its contract.
 use borrow.Author.Tests.{le-leb, lt-leb}
 use Rattle.parser.proofs.is_ready.Statement.{statement}
 use Rattle.parser.proofs.is_ready.Tie as tie

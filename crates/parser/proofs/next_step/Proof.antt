@@ -1,4 +1,4 @@
--- `parser::next_step` meets its contract. Assumes nothing.
+-- `parser::next_step` meets its contract.
 use Rattle.parser.proofs.Loop.{frame-open}
 use borrow.Author.Needs.{needs}
 use Rattle.parser.proofs.next_step.Statement.{statement}

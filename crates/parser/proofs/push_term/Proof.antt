@@ -1,4 +1,4 @@
--- `parser::push_term` meets its contract. Assumes nothing.
+-- `parser::push_term` meets its contract.
 use mathlib.Core.Path.{_∙_, ap}
 use Rattle.parser.specs.declared.Step.{Step}
 use Rattle.parser.proofs.States.{pushed-yes, pushed-no}

@@ -1,4 +1,4 @@
--- `parser::read_term` meets its contract. The loop's invariant is `Reading`, its measure the weight of the state. Assumes nothing.
+-- `parser::read_term` meets its contract. The loop's invariant is `Reading`, its measure the weight of the state.
 use borrow.Author.Tests.{not-true, not-false}
 use borrow.Author.Needs.{needs}
 use mathlib.Core.Path.{sym, _∙_, subst}

@@ -1,4 +1,4 @@
--- `parser::term_step` meets its contract. Assumes nothing.
+-- `parser::term_step` meets its contract.
 use mathlib.Core.Path.{sym, _∙_, ap}
 use Rattle.parser.specs.TermRows.{refused}
 use Rattle.parser.specs.Machine.{pushed-row}

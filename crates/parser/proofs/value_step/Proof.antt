@@ -1,4 +1,4 @@
--- `parser::value_step` meets its contract. Assumes nothing.
+-- `parser::value_step` meets its contract.
 use mathlib.Core.Path.{_≡_, _∙_, ap}
 use Prim.Native.Nat.{suc, _-_}
 use native.Mathlib.Omega.{arith}

@@ -1,4 +1,4 @@
--- `probe::sulyterom_name_test` meets its contract. Assumes nothing.
+-- `probe::sulyterom_name_test` meets its contract.
 use mathlib.Core.Path.{ap, _∙_}
 use Rattle.probe.specs.Numbers.{test-number}
 use borrow.Author.Needs.{needs}

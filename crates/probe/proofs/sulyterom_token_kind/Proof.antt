@@ -1,4 +1,4 @@
--- `probe::sulyterom_token_kind` meets its contract. Assumes nothing.
+-- `probe::sulyterom_token_kind` meets its contract.
 use mathlib.Core.Path.{ap, _∙_}
 use Rattle.probe.specs.Numbers.{kind-number}
 use borrow.Author.Needs.{needs}

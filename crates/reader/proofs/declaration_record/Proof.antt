@@ -1,4 +1,4 @@
--- `reader::declaration_record` meets its contract. Assumes nothing.
+-- `reader::declaration_record` meets its contract.
 use mathlib.Core.Path.{ap₂}
 use mathlib.Core.List.{[], _∷_}
 use Prim.Native.Nat.{ℕ}

@@ -1,4 +1,4 @@
--- `reader::finish_declaration` meets its contract. Assumes nothing.
+-- `reader::finish_declaration` meets its contract.
 use Rattle.reader.proofs.Declarations.{end-refused, end-got}
 use borrow.Author.Needs.{needs}
 use Rattle.reader.proofs.finish_declaration.Statement.{statement}

@@ -1,4 +1,4 @@
--- `reader::next_declaration` meets its contract. Assumes nothing.
+-- `reader::next_declaration` meets its contract.
 use mathlib.Core.List.{[], _∷_}
 use Prim.Native.Nat.{_-_}
 use native.Mathlib.Omega.{arith}

@@ -1,4 +1,4 @@
--- `reader::read_body` meets its contract. Assumes nothing.
+-- `reader::read_body` meets its contract.
 use mathlib.Core.Path.{refl}
 use native.Mathlib.Omega.{arith}
 use Rattle.reader.proofs.Parts.{term-inside, no-body, some-body}

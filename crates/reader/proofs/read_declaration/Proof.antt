@@ -1,4 +1,4 @@
--- `reader::read_declaration` meets its contract. Assumes nothing.
+-- `reader::read_declaration` meets its contract.
 use native.Mathlib.Omega.{arith}
 use Rattle.expects.proofs.Ahead.{atom-inside}
 use Rattle.reader.proofs.Declarations.{stops}

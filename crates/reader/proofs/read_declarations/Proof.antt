@@ -1,4 +1,4 @@
--- `reader::read_declarations` meets its contract. The loop ends since each declaration that is read takes a record. Assumes nothing.
+-- `reader::read_declarations` meets its contract. The loop ends since each declaration that is read takes a record.
 use mathlib.Core.Path.{_∙_}
 use Prim.Native.Nat.{_-_}
 use native.Mathlib.Omega.{arith}

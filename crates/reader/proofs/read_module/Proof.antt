@@ -1,4 +1,4 @@
--- `reader::read_module` meets its contract: the tables hold what they have places for. Assumes nothing.
+-- `reader::read_module` meets its contract: the tables hold what they have places for.
 use Prim.Native.Nat.{_/_}
 use native.Mathlib.Omega.{arith}
 use lib.ListN.{length}

@@ -1,4 +1,4 @@
--- `reader::read_named` meets its contract. Assumes nothing.
+-- `reader::read_named` meets its contract.
 use Rattle.reader.proofs.Declarations.{stops, name-refused}
 use Rattle.reader.proofs.Named.{name-order, type-stops, body-stops, ends}
 use borrow.Author.Needs.{needs}

@@ -1,4 +1,4 @@
--- `reader::read_within` meets its contract. Assumes nothing.
+-- `reader::read_within` meets its contract.
 use Rattle.reader.proofs.Modules.{head-refused, head-got}
 use borrow.Author.Needs.{needs}
 use Rattle.reader.proofs.read_within.Statement.{statement}

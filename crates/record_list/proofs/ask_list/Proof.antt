@@ -1,4 +1,4 @@
--- `record_list::ask_list` meets its contract: a walk of its MIR, by hand. A local array of records is lent to `ask_records`, of which the proof knows its contract alone; then it is lent as a `&` to `write_words`. Assumes nothing.
+-- `record_list::ask_list` meets its contract: a walk of its MIR, by hand. A local array of records is lent to `ask_records`, of which the proof knows its contract alone; then it is lent as a `&` to `write_words`.
 use mathlib.Core.Path.{_≡_, refl, sym, _∙_, ap, subst}
 use Prim.Native.Nat.{ℕ, _*_}
 use mathlib.Core.List.{List, [], _∷_}

@@ -1,5 +1,5 @@
 -- `record_loader::ask_records` meets its contract: a walk of its MIR, by hand, as that of `record_loader::load`, with `ask_words` for the core and the question, an enum by value,
--- passed on to it. Assumes nothing.
+-- passed on to it.
 use mathlib.Core.Path.{_≡_, refl, sym, _∙_, ap, subst}
 use Prim.Native.Nat.{ℕ, _<_, _^_}
 use mathlib.Core.List.{List, [], _∷_}

@@ -1,4 +1,4 @@
--- `record_loader::ask_words` meets its contract: each question is lent the front of the words. Assumes nothing.
+-- `record_loader::ask_words` meets its contract: each question is lent the front of the words.
 use mathlib.Core.Path.{refl, sym, subst}
 use mathlib.Core.List.{_++_}
 use lib.ListN.{drop}

@@ -1,5 +1,4 @@
 -- `records::declaration_at` meets its contract: a walk of its MIR, by hand, with a branch in it. `branches` has a premise for each arm; the arms meet at `After`, and `leaves` is the code behind the branch.
--- Assumes nothing.
 use mathlib.Core.Path.{_≡_, refl, sym}
 use Prim.Native.Nat.{ℕ, _≤_, _<_, _^_}
 use mathlib.Core.List.{List, [], _∷_}

@@ -1,6 +1,5 @@
 -- `records::put_declaration` meets its contract: a walk of its MIR, by hand. In one arm of the branch the borrow of the list is opened, element k is stored to whole, and the borrow is closed at the list with d at k;
 -- in the other the list is as it was. The arms meet at `After`, and `leaves` is the code behind the branch.
--- Assumes nothing.
 use mathlib.Core.Path.{_≡_, refl, sym, ap, subst}
 use Prim.Native.Nat.{ℕ, _≤_, _<_, _^_}
 use mathlib.Core.List.{List, [], _∷_}

@@ -1,4 +1,4 @@
--- `records::put_record` meets its contract, by the two outcomes of its test. Assumes nothing.
+-- `records::put_record` meets its contract, by the two outcomes of its test.
 use borrow.Author.Needs.{needs}
 use native.Mathlib.Omega.{arith}
 use lib.ListN.{length-set}

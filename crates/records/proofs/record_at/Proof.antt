@@ -1,4 +1,4 @@
--- `records::record_at` meets its contract, by the two outcomes of its test. Assumes nothing.
+-- `records::record_at` meets its contract, by the two outcomes of its test.
 use borrow.Author.Needs.{needs}
 use mathlib.Core.Path.{_∙_}
 use Rattle.records.proofs.Whole.{at-whole, at-behind}

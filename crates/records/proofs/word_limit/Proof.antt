@@ -1,4 +1,4 @@
--- `records::word_limit` meets its contract, by the two outcomes of its test. Assumes nothing.
+-- `records::word_limit` meets its contract, by the two outcomes of its test.
 use borrow.Author.Needs.{needs}
 use Rattle.records.proofs.Whole.{limit-below, limit-above}
 use Rattle.records.proofs.word_limit.Statement.{statement}

@@ -1,5 +1,5 @@
 -- `records::write_records` meets its contract: a walk of its MIR, by hand, with a loop in it. The loop's invariant: the list is `written xs ys k`, and k is at most the count.
--- A turn calls `record_at` with a copy of the words' borrow; then the list is lent again to `put_declaration`, for a lifetime that is made for the call, and comes back as it was left (`Again.antt`). Assumes nothing.
+-- A turn calls `record_at` with a copy of the words' borrow; then the list is lent again to `put_declaration`, for a lifetime that is made for the call, and comes back as it was left (`Again.antt`).
 use mathlib.Core.Path.{_≡_, refl, sym, _∙_, ap, subst}
 use Prim.Native.Nat.{ℕ, suc, _+_, _<_, _^_}
 use mathlib.Core.List.{List, [], _∷_}

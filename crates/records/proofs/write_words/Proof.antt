@@ -1,5 +1,5 @@
 -- `records::write_words` meets its contract: a walk of its MIR, by hand, as that of `write_records`. The loop's invariant: the words are `worded xs ys k`, and k is at most the count.
--- A turn calls `declaration_at`, and lends the words again to `put_record`. Assumes nothing.
+-- A turn calls `declaration_at`, and lends the words again to `put_record`.
 use mathlib.Core.Path.{_≡_, refl, sym, _∙_, ap, subst}
 use Prim.Native.Nat.{ℕ, suc, _+_, _<_, _^_}
 use mathlib.Core.List.{List, [], _∷_}

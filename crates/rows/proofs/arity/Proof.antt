@@ -1,4 +1,4 @@
--- `rows::arity` meets its contract: its digits are the arities of the kinds below 25. Assumes nothing.
+-- `rows::arity` meets its contract: its digits are the arities of the kinds below 25.
 use mathlib.Core.Path.{refl, sym}
 use native.Mathlib.Omega.{arith}
 use borrow.Author.Needs.{needs}

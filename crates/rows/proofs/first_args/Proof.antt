@@ -1,4 +1,4 @@
--- `rows::first_args` meets its contract. Assumes nothing.
+-- `rows::first_args` meets its contract.
 use native.Mathlib.Omega.{arith}
 use Rattle.rows.proofs.Words.{first-words, all-words}
 use borrow.Author.Needs.{needs}

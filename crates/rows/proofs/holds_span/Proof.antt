@@ -1,4 +1,4 @@
--- `rows::holds_span` meets its contract: its bits say which kinds below 25 have a span. Assumes nothing.
+-- `rows::holds_span` meets its contract: its bits say which kinds below 25 have a span.
 use mathlib.Core.Path.{refl, sym}
 use native.Mathlib.Omega.{arith}
 use borrow.Author.Needs.{needs}

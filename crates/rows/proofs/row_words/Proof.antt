@@ -1,4 +1,4 @@
--- `rows::row_words` meets its contract. Assumes nothing.
+-- `rows::row_words` meets its contract.
 use Prim.Native.Nat.{ℕ}
 use mathlib.Core.Path.{sym, ap, _∙_}
 use mathlib.Core.List.{List, [], _∷_}

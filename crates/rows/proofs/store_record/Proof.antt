@@ -1,4 +1,4 @@
--- `rows::store_record` meets its contract: the law over the width, at 5 words. Assumes nothing.
+-- `rows::store_record` meets its contract: the law over the width, at 5 words.
 use Prim.Native.Nat.{_/_}
 use mathlib.Core.Path.{sym, _∙_}
 use native.Mathlib.Omega.{arith}

@@ -1,4 +1,4 @@
--- `rows::store_row` meets its contract: the law over the width, at 8 words. Assumes nothing.
+-- `rows::store_row` meets its contract: the law over the width, at 8 words.
 use Prim.Native.Nat.{_/_}
 use mathlib.Core.Path.{sym, _∙_}
 use native.Mathlib.Omega.{arith}

@@ -1,4 +1,4 @@
--- `rows::surface_row` meets its contract. Assumes nothing.
+-- `rows::surface_row` meets its contract.
 use mathlib.Core.Path.{ap, _∙_}
 use mathlib.Core.Bool.{Bool, cond}
 use mathlib.Core.List.{[], _++_}

@@ -1,4 +1,4 @@
--- `same::compare` meets its contract. Assumes nothing.
+-- `same::compare` meets its contract.
 use mathlib.Core.Path.{sym, subst, _∙_}
 use Rattle.same.specs.inner.Contents.{SameBefore}
 use borrow.Author.Needs.{needs}

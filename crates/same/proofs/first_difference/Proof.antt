@@ -1,4 +1,4 @@
--- `same::first_difference` meets its contract: the declarations before k are the same. Assumes nothing.
+-- `same::first_difference` meets its contract: the declarations before k are the same.
 use Prim.Native.Nat.{_-_, _≤_}
 use mathlib.Core.Logic.{inl, inr}
 use native.Mathlib.Omega.{arith}

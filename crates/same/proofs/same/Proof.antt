@@ -1,4 +1,4 @@
--- `same::same` meets its contract. Assumes nothing.
+-- `same::same` meets its contract.
 use Rattle.same.proofs.Asked.{asked-first, asked-second, one-accepted, asked-both}
 use borrow.Author.Needs.{needs}
 use Rattle.same.proofs.same.Statement.{statement}

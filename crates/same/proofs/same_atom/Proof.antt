@@ -1,4 +1,4 @@
--- `same::same_atom` meets its contract. Assumes nothing.
+-- `same::same_atom` meets its contract.
 use mathlib.Core.Path.{_∙_, ap₂}
 use Rattle.terms.specs.Label.{part}
 use Rattle.words.specs.Words.{same-bytes}

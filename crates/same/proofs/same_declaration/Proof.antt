@@ -1,4 +1,4 @@
--- `same::same_declaration` meets its contract. Assumes nothing.
+-- `same::same_declaration` meets its contract.
 use native.Mathlib.Omega.{arith}
 use borrow.Author.Tests.{not-true, not-false}
 use Rattle.same.proofs.Declarations.{behind-small, declaration-no, declaration-by-rows}

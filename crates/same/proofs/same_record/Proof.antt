@@ -1,4 +1,4 @@
--- `same::same_record` meets its contract. Assumes nothing.
+-- `same::same_record` meets its contract.
 use mathlib.Core.Path.{sym, _∙_}
 use borrow.Author.Tests.{not-true, not-false}
 use Rattle.same.proofs.Contents.{record-kinds, record-names, record-rows}

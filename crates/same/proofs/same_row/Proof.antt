@@ -1,4 +1,4 @@
--- `same::same_row` meets its contract. Assumes nothing.
+-- `same::same_row` meets its contract.
 use mathlib.Core.Path.{sym, _∙_}
 use borrow.Author.Tests.{not-true, not-false}
 use Rattle.same.proofs.Contents.{row-kinds, row-plain, row-digits, row-universe}

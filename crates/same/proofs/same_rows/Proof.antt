@@ -1,4 +1,4 @@
--- `same::same_rows` meets its contract: the rows before i are the same. Assumes nothing.
+-- `same::same_rows` meets its contract: the rows before i are the same.
 use borrow.Author.Count.{below-more}
 use borrow.Author.Tests.{not-true, not-false}
 use Rattle.same.proofs.Contents.{holds, fails}

@@ -1,4 +1,4 @@
--- `same::same_words` meets its contract: the words before i are equal. Assumes nothing.
+-- `same::same_words` meets its contract: the words before i are equal.
 use Prim.Native.Nat.{ℕ, _+_, _-_, _<_, _≤_}
 use mathlib.Core.Path.{_≡_, sym, _∙_}
 use native.Mathlib.Omega.{arith}

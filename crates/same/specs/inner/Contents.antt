@@ -1,4 +1,4 @@
--- Rows and records of two pairs of tables, compared by what counts of them. Assumes nothing.
+-- Rows and records of two pairs of tables, compared by what counts of them.
 use mathlib.Core.Path.{_≡_}
 use mathlib.Core.List.{List, [], _∷_}
 use mathlib.Core.Bool.{Bool, true, false}

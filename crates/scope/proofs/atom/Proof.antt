@@ -1,4 +1,4 @@
--- `atom` meets its contract: each test says which bytes of the source are there. Assumes nothing.
+-- `atom` meets its contract: each test says which bytes of the source are there.
 use Prim.Native.Nat.{ℕ, _-_}
 use mathlib.Core.Path.{_≡_, sym, ap, _∙_}
 use native.Mathlib.Omega.{arith}

@@ -1,4 +1,4 @@
--- `bit` meets its contract. Assumes nothing.
+-- `bit` meets its contract.
 use Prim.Native.Nat.{_-_, _/_, _%_, _^_}
 use mathlib.Core.Path.{sym}
 use native.Mathlib.Omega.{arith}

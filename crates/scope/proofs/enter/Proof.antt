@@ -1,4 +1,4 @@
--- `enter` meets its contract. Assumes nothing.
+-- `enter` meets its contract.
 use native.Mathlib.Omega.{arith}
 use Rattle.scope.proofs.Index.{indexed-more, indexed-aside}
 use borrow.Author.Needs.{needs}

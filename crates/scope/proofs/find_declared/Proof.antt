@@ -1,4 +1,4 @@
--- `find_declared` meets its contract: the declarations passed do not have the name. Assumes nothing.
+-- `find_declared` meets its contract: the declarations passed do not have the name.
 use Prim.Native.Nat.{ℕ, _+_, _-_, _≤_}
 use mathlib.Core.Path.{_≡_, sym, _∙_, ap, subst}
 use native.Mathlib.Omega.{arith}

@@ -1,4 +1,4 @@
--- `find_indexed` meets its contract. Assumes nothing.
+-- `find_indexed` meets its contract.
 use mathlib.Core.Path.{sym, ap, _∙_, subst}
 use mathlib.Core.Logic.{⊎-elim}
 use native.Mathlib.Omega.{arith}

@@ -1,4 +1,4 @@
--- `find_local` meets its contract: the names passed are other names. Assumes nothing.
+-- `find_local` meets its contract: the names passed are other names.
 use Prim.Native.Nat.{_+_, _-_, _*_}
 use mathlib.Core.Path.{_≡_, sym, _∙_, ap}
 use native.Mathlib.Omega.{arith}

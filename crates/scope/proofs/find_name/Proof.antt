@@ -1,4 +1,4 @@
--- `find_name` meets its contract. Assumes nothing.
+-- `find_name` meets its contract.
 use mathlib.Core.Path.{refl, sym, _∙_, ap, subst}
 use Rattle.scope.specs.Scope.{place-of, local-names, declared-names}
 use Rattle.scope.specs.Index.{Searched}

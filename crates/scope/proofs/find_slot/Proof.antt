@@ -1,4 +1,4 @@
--- `find_slot` meets its contract: what has the name lies ahead of the slot where the walk is, and slots rise on the way. Assumes nothing.
+-- `find_slot` meets its contract: what has the name lies ahead of the slot where the walk is, and slots rise on the way.
 use Prim.Native.Nat.{ℕ, _+_, _-_, _*_, _≤_, _<_}
 use mathlib.Core.Path.{_≡_, sym, _∙_, subst}
 use native.Mathlib.Omega.{arith}

@@ -1,4 +1,4 @@
--- `is_name` meets its contract: a part that lies in the source has the length that it says. Assumes nothing.
+-- `is_name` meets its contract: a part that lies in the source has the length that it says.
 use Prim.Native.Nat.{ℕ}
 use mathlib.Core.Path.{_≡_, sym, ap, _∙_}
 use native.Mathlib.Nat.{add-sub-cancel-left}

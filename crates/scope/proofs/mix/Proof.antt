@@ -1,4 +1,4 @@
--- `mix` meets its contract: the bytes before i are taken in. Assumes nothing.
+-- `mix` meets its contract: the bytes before i are taken in.
 use Prim.Native.Nat.{_-_, _<_}
 use mathlib.Core.Path.{_≡_, refl, sym, _∙_}
 use native.Mathlib.Omega.{arith}

@@ -1,4 +1,4 @@
--- `pop_values` meets its contract. Assumes nothing.
+-- `pop_values` meets its contract.
 use Prim.Native.Nat.{_-_, _≤_}
 use mathlib.Core.Path.{_≡_, refl, _∙_, ap}
 use native.Mathlib.Omega.{arith}

@@ -1,4 +1,4 @@
--- `pop_work` meets its contract. Assumes nothing.
+-- `pop_work` meets its contract.
 use mathlib.Core.Path.{refl}
 use Rattle.stacks.proofs.Popping.{popped-work, is-eval, is-push-local, is-pop-local, is-build}
 use borrow.Author.Needs.{needs}

@@ -1,4 +1,4 @@
--- `push_local` meets its contract. Assumes nothing.
+-- `push_local` meets its contract.
 use native.Mathlib.Omega.{arith}
 use lib.ListN.{length-set}
 use Rattle.stacks.proofs.Pushing.{local-pushed}

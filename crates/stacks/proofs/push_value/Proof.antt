@@ -1,4 +1,4 @@
--- `push_value` meets its contract. Assumes nothing.
+-- `push_value` meets its contract.
 use Rattle.stacks.proofs.Pushing.{value-pushed}
 use borrow.Author.Needs.{needs}
 use Rattle.stacks.proofs.push_value.Statement.{statement}

@@ -1,4 +1,4 @@
--- `push_work` meets its contract. Assumes nothing.
+-- `push_work` meets its contract.
 use mathlib.Core.Path.{sym}
 use Rattle.stacks.specs.Stacks.{work-of}
 use Rattle.stacks.proofs.Pushing.{pushed-as}

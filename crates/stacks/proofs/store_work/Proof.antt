@@ -1,4 +1,4 @@
--- `store_work` meets its contract. Assumes nothing.
+-- `store_work` meets its contract.
 use native.Mathlib.Omega.{arith}
 use lib.ListN.{length-set}
 use Rattle.stacks.proofs.Pushing.{work-pushed}

@@ -1,4 +1,4 @@
--- `sulyterom::sulyterom_load` meets its contract. Assumes nothing.
+-- `sulyterom::sulyterom_load` meets its contract.
 use Rattle.sulyterom.proofs.Telling.{tells}
 use borrow.Author.Needs.{needs}
 use Rattle.sulyterom.proofs.sulyterom_load.Statement.{statement}

@@ -1,4 +1,4 @@
--- `tables::clear_from` meets its contract. Assumes nothing.
+-- `tables::clear_from` meets its contract.
 use Prim.Native.Nat.{_-_}
 use mathlib.Core.Path.{_≡_, refl, sym, _∙_, ap}
 use native.Mathlib.Omega.{arith}

@@ -1,4 +1,4 @@
--- `tables::put` meets its contract. Assumes nothing.
+-- `tables::put` meets its contract.
 use Prim.Native.Nat.{_+_, _-_}
 use mathlib.Core.Path.{_≡_, refl, _∙_}
 use native.Mathlib.Omega.{arith}

@@ -1,4 +1,4 @@
--- `tables::store` meets its contract. Assumes nothing.
+-- `tables::store` meets its contract.
 use Prim.Native.Nat.{_+_, _≤_}
 use mathlib.Core.Path.{sym, _∙_}
 use native.Mathlib.Omega.{arith}

@@ -1,4 +1,4 @@
--- `tables::word_at` meets its contract. Assumes nothing.
+-- `tables::word_at` meets its contract.
 use mathlib.Core.Path.{sym}
 use lib.ListN.{List·getD-eq-default}
 use borrow.Author.Needs.{needs}

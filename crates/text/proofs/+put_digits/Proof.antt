@@ -1,4 +1,4 @@
--- `text::put_digits` meets its contract, by a measure of the places. Assumes nothing.
+-- `text::put_digits` meets its contract, by a measure of the places.
 use Prim.Native.Nat.{ℕ, _<_, _+_, _-_, _/_, _%_}
 use mathlib.Core.List.{[], _∷_}
 use borrow.Author.Needs.{needs}

@@ -1,4 +1,4 @@
--- `text::put` meets its contract. Assumes nothing.
+-- `text::put` meets its contract.
 use Prim.Native.Nat.{_-_}
 use mathlib.Core.Path.{sym, _∙_}
 use native.Mathlib.Omega.{arith}

@@ -1,4 +1,4 @@
--- `text::put_byte` meets its contract. Assumes nothing.
+-- `text::put_byte` meets its contract.
 use mathlib.Core.Path.{sym}
 use native.Mathlib.Omega.{arith}
 use lib.Seq.{set-out}

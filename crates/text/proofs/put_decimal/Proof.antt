@@ -1,4 +1,4 @@
--- `text::put_decimal` meets its contract. Assumes nothing.
+-- `text::put_decimal` meets its contract.
 use borrow.Author.Needs.{needs}
 use Rattle.text.specs.Text.{decimal}
 use Rattle.text.proofs.put_decimal.Statement.{statement}

@@ -1,4 +1,4 @@
--- `token::byte_class` meets its contract. Assumes nothing.
+-- `token::byte_class` meets its contract.
 use mathlib.Core.Path.{_≡_, sym, _∙_, ap}
 use mathlib.Core.Bool.{Bool, true, false, cond}
 use mathlib.Core.Logic.{⊎-elim, inl, inr}

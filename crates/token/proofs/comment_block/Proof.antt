@@ -1,4 +1,4 @@
--- `token::comment_block` meets its contract: `all` says whether none of the bytes before i is 10. Assumes nothing.
+-- `token::comment_block` meets its contract: `all` says whether none of the bytes before i is 10.
 use Prim.Native.Nat.{_≤_, _-_}
 use mathlib.Core.Path.{_≡_, refl, sym, _∙_}
 use mathlib.Core.Logic.{⊎-elim}

@@ -1,4 +1,4 @@
--- `token::comment_blocks` meets its contract: the comment goes on over each block that it passes. Assumes nothing.
+-- `token::comment_blocks` meets its contract: the comment goes on over each block that it passes.
 use Prim.Native.Nat.{_-_}
 use mathlib.Core.Path.{sym, _∙_}
 use native.Mathlib.Omega.{arith}

@@ -1,4 +1,4 @@
--- `token::comment_end` meets its contract. Assumes nothing.
+-- `token::comment_end` meets its contract.
 use Prim.Native.Nat.{_-_}
 use mathlib.Core.Path.{sym, _∙_}
 use native.Mathlib.Omega.{arith}

@@ -1,4 +1,4 @@
--- `token::is_atom_byte` meets its contract. Assumes nothing.
+-- `token::is_atom_byte` meets its contract.
 use mathlib.Core.Bool.{or-false}
 use native.Mathlib.Omega.{arith}
 use borrow.Author.Tests.{le-leb, lt-leb, ne-eqb}

@@ -1,4 +1,4 @@
--- `token::lex_atom` meets its contract. Assumes nothing.
+-- `token::lex_atom` meets its contract.
 use Prim.Native.Nat.{_-_}
 use mathlib.Core.Path.{_≡_, refl, sym, _∙_}
 use mathlib.Core.List.{[], _∷_}

@@ -1,4 +1,4 @@
--- `token::next_token` meets its contract. Assumes nothing.
+-- `token::next_token` meets its contract.
 use mathlib.Core.Path.{sym, _∙_}
 use borrow.Author.Needs.{needs}
 use Rattle.token.proofs.Runs.{here-end, next-at}

@@ -1,4 +1,4 @@
--- `token::skip_layout` meets its contract: what is left of the layout ends where the whole does. Assumes nothing.
+-- `token::skip_layout` meets its contract: what is left of the layout ends where the whole does.
 use Prim.Native.Nat.{_-_}
 use mathlib.Core.Path.{_≡_, refl, sym, _∙_}
 use mathlib.Core.Bool.{false}

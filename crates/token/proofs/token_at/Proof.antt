@@ -1,4 +1,4 @@
--- `token::token_at` meets its contract. Assumes nothing.
+-- `token::token_at` meets its contract.
 use mathlib.Core.Path.{refl, sym, _∙_}
 use mathlib.Core.Logic.{⊎-elim}
 use native.Mathlib.Omega.{arith}

@@ -1,4 +1,4 @@
--- `utf8::ascii_block` meets its contract: the bytes before i are ASCII if the greatest of them is. Assumes nothing.
+-- `utf8::ascii_block` meets its contract: the bytes before i are ASCII if the greatest of them is.
 use Prim.Native.Nat.{ℕ, _≤_, _-_}
 use mathlib.Core.Path.{_≡_, refl, sym, _∙_, ap}
 use mathlib.Core.Bool.{Bool}

@@ -1,4 +1,4 @@
--- `utf8::between` meets its contract. Assumes nothing.
+-- `utf8::between` meets its contract.
 use borrow.Author.Tests.{le-leb, lt-leb}
 use Rattle.utf8.proofs.between.Statement.{statement}
 use Rattle.utf8.proofs.between.Tie as tie

@@ -1,4 +1,4 @@
--- `utf8::four` meets its contract. Assumes nothing.
+-- `utf8::four` meets its contract.
 use mathlib.Core.Path.{refl, sym, _∙_}
 use mathlib.Core.Bool.{true, false}
 use borrow.Author.Tests.{not-true, not-false}

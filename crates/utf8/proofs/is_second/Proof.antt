@@ -1,4 +1,4 @@
--- `utf8::is_second` meets its contract. Assumes nothing.
+-- `utf8::is_second` meets its contract.
 use borrow.Author.Tests.{ne-eqb}
 use Rattle.utf8.specs.Sequences.{second}
 use borrow.Author.Needs.{needs}

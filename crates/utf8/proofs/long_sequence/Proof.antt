@@ -1,4 +1,4 @@
--- `utf8::long_sequence` meets its contract, by the lines of the table. Assumes nothing.
+-- `utf8::long_sequence` meets its contract, by the lines of the table.
 use native.Mathlib.Omega.{arith}
 use borrow.Author.Needs.{needs}
 use lib.ListN.{getD}

@@ -1,4 +1,4 @@
--- `utf8::skip_ascii` meets its contract: each byte that it passes is ASCII. Assumes nothing.
+-- `utf8::skip_ascii` meets its contract: each byte that it passes is ASCII.
 use Prim.Native.Nat.{_-_}
 use native.Mathlib.Omega.{arith}
 use lib.ListN.{length}

@@ -1,4 +1,4 @@
--- `utf8::skip_blocks` meets its contract: each block that it passes is ASCII. Assumes nothing.
+-- `utf8::skip_blocks` meets its contract: each block that it passes is ASCII.
 use Prim.Native.Nat.{_-_}
 use mathlib.Core.Path.{sym, _∙_}
 use native.Mathlib.Omega.{arith}

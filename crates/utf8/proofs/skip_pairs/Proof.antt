@@ -1,4 +1,4 @@
--- `utf8::skip_pairs` meets its contract: each sequence that it passes has two bytes. Assumes nothing.
+-- `utf8::skip_pairs` meets its contract: each sequence that it passes has two bytes.
 use Prim.Native.Nat.{_-_}
 use mathlib.Core.Path.{sym, _∙_}
 use native.Mathlib.Omega.{arith}

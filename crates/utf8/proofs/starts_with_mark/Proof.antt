@@ -1,4 +1,4 @@
--- `utf8::starts_with_mark` meets its contract. Assumes nothing.
+-- `utf8::starts_with_mark` meets its contract.
 use native.Mathlib.Omega.{arith}
 use borrow.Author.Needs.{needs}
 use borrow.Author.Tests.{eq-eqb, ne-eqb}

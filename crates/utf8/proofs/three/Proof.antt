@@ -1,4 +1,4 @@
--- `utf8::three` meets its contract. Assumes nothing.
+-- `utf8::three` meets its contract.
 use mathlib.Core.Path.{refl, sym, _∙_}
 use mathlib.Core.Bool.{true, false}
 use borrow.Author.Tests.{not-true, not-false}

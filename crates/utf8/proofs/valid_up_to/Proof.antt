@@ -1,4 +1,4 @@
--- `utf8::valid_up_to` meets its contract: the valid length of the whole is that of what is left. Assumes nothing.
+-- `utf8::valid_up_to` meets its contract: the valid length of the whole is that of what is left.
 use Prim.Native.Nat.{_-_}
 use mathlib.Core.Path.{sym, _∙_}
 use native.Mathlib.Omega.{arith}

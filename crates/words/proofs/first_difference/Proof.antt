@@ -1,4 +1,4 @@
--- `words::first_difference` meets its contract: the bytes before i are equal. Assumes nothing.
+-- `words::first_difference` meets its contract: the bytes before i are equal.
 use Prim.Native.Nat.{_-_}
 use native.Mathlib.Omega.{arith}
 use lib.ListN.{length}

@@ -1,4 +1,4 @@
--- `words::is_digit` meets its contract. Assumes nothing.
+-- `words::is_digit` meets its contract.
 use mathlib.Core.Path.{sym}
 use native.Mathlib.Omega.{arith}
 use Rattle.words.proofs.Bytes.{inside, below, above}

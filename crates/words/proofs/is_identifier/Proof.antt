@@ -1,4 +1,4 @@
--- `words::is_identifier` meets its contract. Assumes nothing.
+-- `words::is_identifier` meets its contract.
 use Prim.Native.Nat.{_-_}
 use mathlib.Core.Path.{_≡_, sym, _∙_}
 use borrow.Author.Needs.{needs}

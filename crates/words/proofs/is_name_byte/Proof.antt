@@ -1,4 +1,4 @@
--- `words::is_name_byte` meets its contract. Assumes nothing.
+-- `words::is_name_byte` meets its contract.
 use mathlib.Core.Path.{sym, _∙_, ap}
 use mathlib.Core.Bool.{Bool, _||_}
 use borrow.Author.Needs.{needs}

@@ -1,4 +1,4 @@
--- `words::is_name_start` meets its contract. Assumes nothing.
+-- `words::is_name_start` meets its contract.
 use mathlib.Core.Path.{sym, ap}
 use mathlib.Core.Bool.{or-true}
 use native.Mathlib.Omega.{arith}

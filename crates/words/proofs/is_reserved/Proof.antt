@@ -1,4 +1,4 @@
--- `words::is_reserved` meets its contract. Assumes nothing.
+-- `words::is_reserved` meets its contract.
 use Prim.Native.Nat.{ℕ}
 use mathlib.Core.Path.{ap}
 use mathlib.Core.Bool.{not}

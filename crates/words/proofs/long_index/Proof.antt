@@ -1,4 +1,4 @@
--- `words::long_index` meets its contract: these are the words of eight bytes and more. Assumes nothing.
+-- `words::long_index` meets its contract: these are the words of eight bytes and more.
 use Prim.Native.Nat.{ℕ}
 use mathlib.Core.Path.{refl, sym, _∙_}
 use mathlib.Core.Bool.{Bool}

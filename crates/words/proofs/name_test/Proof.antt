@@ -1,4 +1,4 @@
--- `words::name_test` meets its contract. Assumes nothing.
+-- `words::name_test` meets its contract.
 use mathlib.Core.Path.{sym, _∙_}
 use Rattle.words.specs.Words.{name-test}
 use borrow.Author.Needs.{needs}

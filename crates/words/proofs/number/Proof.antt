@@ -1,4 +1,4 @@
--- `words::number` meets its contract: the bytes from i on are taken in. Assumes nothing.
+-- `words::number` meets its contract: the bytes from i on are taken in.
 use Prim.Native.Nat.{_-_, _+_, _*_, _≤_, _<_}
 use mathlib.Core.Path.{_≡_, sym, ap}
 use native.Mathlib.Omega.{arith}

@@ -1,4 +1,4 @@
--- `words::same_bytes` meets its contract. Assumes nothing.
+-- `words::same_bytes` meets its contract.
 use mathlib.Core.Path.{sym, _∙_, ap}
 use lib.Dec.{eqb}
 use lib.ListN.{length}

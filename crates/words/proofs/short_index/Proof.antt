@@ -1,4 +1,4 @@
--- `words::short_index` meets its contract: the number of each arm is that of a word. Assumes nothing.
+-- `words::short_index` meets its contract: the number of each arm is that of a word.
 use Prim.Native.Nat.{ℕ, _<_}
 use mathlib.Core.Path.{_≡_, refl, sym, _∙_, ap}
 use mathlib.Core.Bool.{Bool}

@@ -1,6 +1,5 @@
 -- `lexer::Lexer::next_token` meets its contract: a walk of its MIR, by hand. The borrow of the lexer is opened, a copy of what it owns is taken apart for `step`, and the borrow is closed at the lexer with the next position.
 -- All that the proof knows of `step` is that it meets its contract.
--- Assumes nothing.
 use mathlib.Core.Path.{_≡_, refl, ap, sym, subst, _∙_}
 use Prim.Native.Nat.{ℕ, _<_, _^_}
 use mathlib.Core.List.{List, [], _∷_}

@@ -1,5 +1,5 @@
 -- `listing::standard::read_input` is safe and ends, and what it read lies within the buffer: each turn takes one from the turns that are left,
--- and a step ends within the buffer. Assumes nothing.
+-- and a step ends within the buffer.
 use mathlib.Core.Path.{_≡_, refl, _∙_}
 use Prim.Native.Nat.{_≤_}
 use lib.ListN.{length}

@@ -1,5 +1,4 @@
 -- `listing::standard::write_output` is safe and ends: each turn takes one from the turns that are left, and a step ends within the text.
--- Assumes nothing.
 use Prim.Native.Nat.{_≤_}
 use lib.ListN.{length}
 use native.Mathlib.Omega.{arith}

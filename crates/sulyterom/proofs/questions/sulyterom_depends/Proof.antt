@@ -1,4 +1,4 @@
--- `sulyterom::questions::sulyterom_depends` meets its contract. Assumes nothing.
+-- `sulyterom::questions::sulyterom_depends` meets its contract.
 use Rattle.sulyterom.proofs.Telling.{tells}
 use borrow.Author.Needs.{needs}
 use Rattle.sulyterom.proofs.questions.sulyterom_depends.Statement.{statement}

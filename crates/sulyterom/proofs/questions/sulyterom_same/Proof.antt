@@ -1,4 +1,4 @@
--- `sulyterom::questions::sulyterom_same` meets its contract. Assumes nothing.
+-- `sulyterom::questions::sulyterom_same` meets its contract.
 use Rattle.sulyterom.proofs.Telling.{tells}
 use borrow.Author.Needs.{needs}
 use Rattle.sulyterom.proofs.questions.sulyterom_same.Statement.{statement}

@@ -1,4 +1,4 @@
--- `sulyterom::reports::report_comparison` meets its contract. Assumes nothing.
+-- `sulyterom::reports::report_comparison` meets its contract.
 use mathlib.Core.Path.{sym, ap, _∙_}
 use Rattle.same.specs.Comparison.{report-comparison}
 use Rattle.sulyterom.specs.Numbers.{numbers}

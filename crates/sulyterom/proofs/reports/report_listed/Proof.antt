@@ -1,4 +1,4 @@
--- `sulyterom::reports::report_listed` meets its contract. Assumes nothing.
+-- `sulyterom::reports::report_listed` meets its contract.
 use mathlib.Core.Path.{sym, ap, _∙_}
 use Rattle.surface.specs.declared.Answer.{Answer}
 use Rattle.sulyterom.specs.Numbers.{numbers, report-listed}

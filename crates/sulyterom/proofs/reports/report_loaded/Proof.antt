@@ -1,4 +1,4 @@
--- `sulyterom::reports::report_loaded` meets its contract. Assumes nothing.
+-- `sulyterom::reports::report_loaded` meets its contract.
 use mathlib.Core.Path.{sym, ap, _∙_}
 use Rattle.surface.specs.Reports.{report}
 use Rattle.sulyterom.specs.Numbers.{numbers}

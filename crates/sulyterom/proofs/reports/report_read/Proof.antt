@@ -1,4 +1,4 @@
--- `sulyterom::reports::report_read` meets its contract. Assumes nothing.
+-- `sulyterom::reports::report_read` meets its contract.
 use mathlib.Core.Path.{sym, ap, _∙_}
 use Rattle.loader.specs.Parsed.{report-read}
 use Rattle.sulyterom.specs.Numbers.{numbers}

@@ -1,4 +1,4 @@
--- `sulyterom::reports::report_refusal` meets its contract. Assumes nothing.
+-- `sulyterom::reports::report_refusal` meets its contract.
 use mathlib.Core.Path.{sym, ap}
 use Rattle.token.specs.declared.Place.{Place}
 use Rattle.surface.specs.Reports.{offsets}

@@ -1,4 +1,4 @@
--- `sulyterom::reports::report_token` meets its contract. Assumes nothing.
+-- `sulyterom::reports::report_token` meets its contract.
 use mathlib.Core.Path.{sym, ap, _∙_}
 use mathlib.Core.List.{[], _∷_}
 use Prim.Native.Nat.{ℕ}

@@ -1,4 +1,4 @@
--- `sulyterom::reports::report_which` meets its contract. Assumes nothing.
+-- `sulyterom::reports::report_which` meets its contract.
 use mathlib.Core.Path.{sym, ap}
 use mathlib.Core.List.{_∷_}
 use Rattle.token.specs.declared.Place.{Place}

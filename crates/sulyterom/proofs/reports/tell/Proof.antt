@@ -1,4 +1,4 @@
--- `sulyterom::reports::tell` meets its contract. Assumes nothing.
+-- `sulyterom::reports::tell` meets its contract.
 use mathlib.Core.Path.{refl, sym, ap, _∙_}
 use mathlib.Core.Bool.{Bool, cond}
 use mathlib.Core.List.{_++_}

@@ -1,4 +1,4 @@
--- `sulyterom::texts::sulyterom_list` meets its contract. Assumes nothing.
+-- `sulyterom::texts::sulyterom_list` meets its contract.
 use Rattle.sulyterom.proofs.Telling.{tells}
 use borrow.Author.Needs.{needs}
 use Rattle.sulyterom.proofs.texts.sulyterom_list.Statement.{statement}

@@ -1,4 +1,4 @@
--- `sulyterom::texts::sulyterom_token` meets its contract. Assumes nothing.
+-- `sulyterom::texts::sulyterom_token` meets its contract.
 use mathlib.Core.Path.{ap}
 use Rattle.lexer.specs.declared.Stepped.{Stepped}
 use Rattle.sulyterom.proofs.Telling.{tells}
