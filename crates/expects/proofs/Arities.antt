@@ -7,7 +7,7 @@ use mathlib.Core.Option.{some}
 use lib.Dec.{eqb, leb}
 use borrow.Author.Tests.{eqb-true, leb-true}
 use Rattle.words.specs.Words.{same-bytes}
-use Rattle.terms.specs.Forms.{Shape, alone, with-name, with-numeral, binding, plain, Form, edition-0-1, forms, form-of-word, form-of-kind, arity-of}
+use Rattle.terms.specs.Forms.{Shape, alone, with-name, with-numeral, binding, plain, Form, Edition, edition-0-1, forms, form-of-word, form-of-kind, arity-of}
 use Rattle.expects.specs.declared.Format.{Format}
 use Rattle.expects.specs.Formats.{edition}
 
@@ -29,6 +29,10 @@ arity-test plain n = leb 1 n && leb n 6
 pub record Fitting (f : Form) : Type 0 where
   pub arity-is : arity-of (f .kind) ≡ f .arity
   pub by-shape : ArityOfShape (f .shape) (f .arity)
+
+-- The forms of an edition have the arities of their kinds.
+abbrev pub Fits : Edition → Type 0
+Fits E = (w : List ℕ) (f : Form) → form-of-word w (E .forms) ≡ some f → Fitting f
 
 abbrev fits : Form → Bool
 fits f = eqb (arity-of (f .kind)) (f .arity) && arity-test (f .shape) (f .arity)
@@ -67,7 +71,7 @@ format-fits : (m : Format) → all-fit (edition m .forms) ≡ true
 unfolding edition-0-1
 format-fits Format.Surface01 = all-forms-fit
 
-pub fitting : (m : Format) (w : List ℕ) (f : Form) → form-of-word w (edition m .forms) ≡ some f → Fitting f
+pub fitting : (m : Format) → Fits (edition m)
 fitting m w f e =
     let t = both (eqb (arity-of (f .kind)) (f .arity)) (arity-test (f .shape) (f .arity)) (found w f (edition m .forms) (format-fits m) e) in
     record { arity-is = eqb-true (arity-of (f .kind)) (f .arity) (t .0); by-shape = tested (f .shape) (f .arity) (t .1) }

@@ -15,7 +15,7 @@ use Rattle.surface.specs.Text.{text}
 use Rattle.expects.specs.declared.Format.{Format}
 use Rattle.expects.specs.Formats.{edition}
 use Rattle.expects.proofs.Gives.{Gives, given, gives-after}
-use Rattle.expects.proofs.Arities.{ArityOfShape, Fitting, fitting}
+use Rattle.expects.proofs.Arities.{ArityOfShape, Fits, fitting}
 use Rattle.expects.proofs.Ahead.{Ahead, TokenAhead, AnyToken, token-any, not-end, closing-ahead, atom-ahead, natural-ahead, name-ahead}
 
 -- The number of a frame's arguments.
@@ -65,8 +65,7 @@ module _ (E : Edition) (s : List ℕ) (p : Position) where
   known-gives k t none q g = tt
   known-gives k t (some f) q g = g f refl
 
-  -- With the forms of an edition that have the arities of their kinds.
-  module _ (fit : (w : List ℕ) (f : Form) → form-of-word w (E .forms) ≡ some f → Fitting f) where
+  module _ (fit : Fits E) where
     on-ahead : (t : Token) (k : TokenKind) (q : Position) → AnyToken s p t q → t .kind ≡ k → Gives (BeginningAhead s p) (beginning-on E s t k q)
     unfolding beginning-on
     on-ahead t TokenKind.LParen q a e =

@@ -83,13 +83,10 @@ declaration-other w z =
 pub kind-by-index : (w : List ℕ) (k : ℕ) → k ≡ word-index w → declaration-kind (word k) ≡ declaration-kind w
 kind-by-index w k e = by-index declaration-kind (λ v z. declaration-other v z ∙ sym (declaration-other [] no-index)) w k e
 
--- The shapes and arities of the words from 7 on as octal digits of a number.
+-- The shapes of the words from 7 on as octal digits of a number.
 module _ (n : ℕ) where
   abbrev digit : ℕ → ℕ
   digit k = n / 2 ^ (3 * (k - 7)) % 8
 
   pub shape-digit : (k : ℕ) → values digit 7 21 ≡ values (λ j. form-at j .shape) 7 21 → 7 ≤ k → k < 28 → digit k ≡ form-at k .shape
   shape-digit k e l h = same-value digit (λ j. form-at j .shape) 7 21 k e l h
-
-  pub arity-digit : (k : ℕ) → values digit 7 21 ≡ values (λ j. form-at j .arity) 7 21 → 7 ≤ k → k < 28 → digit k ≡ form-at k .arity
-  arity-digit k e l h = same-value digit (λ j. form-at j .arity) 7 21 k e l h

@@ -1,4 +1,4 @@
--- The form that the three numbers of a word stand for.
+-- The form that the two numbers of a word stand for.
 use Prim.Native.Nat.{ℕ}
 use mathlib.Core.Path.{_≡_, refl, sym, _∙_, ap}
 use mathlib.Core.Bool.{cond}
@@ -32,7 +32,6 @@ pub record FormIs (o : Option Form) (f : FormOfWord) (sh : Shape) : Type 0 where
   pub is : o ≡ some form
   pub shape : form .shape ≡ sh
   pub kind : form .kind ≡ f .kind
-  pub arity : form .arity ≡ f .arity
 
 pub form-is : (o : Option Form) (f : FormOfWord) (sh : Shape) → f ≡ form-numbers o → f .shape ≡ shape-number sh → FormIs o f sh
 form-is none f sh e q = absurd (positive sh (sym q ∙ ap (λ x. x .shape) e))
@@ -42,5 +41,4 @@ form-is (some g) f sh e q =
       is = refl;
       shape = sym (shape-back (g .shape)) ∙ ap shape-of (sym (ap (λ x. x .shape) e) ∙ q) ∙ shape-back sh;
       kind = ap (λ x. x .kind) (sym e);
-      arity = ap (λ x. x .arity) (sym e);
     }

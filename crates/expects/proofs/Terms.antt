@@ -23,6 +23,7 @@ use Rattle.expects.specs.FormOfWord.{form-numbers, shape-number}
 use Rattle.expects.specs.Tokens.{Inside}
 use Rattle.expects.specs.Terms.{LabelWith, LabelAlone, BeginsOn, BeginsWith, ClosesLeaf}
 use Rattle.expects.proofs.Shapes.{form-is}
+use Rattle.expects.proofs.Arities.{Fits}
 use Rattle.expects.proofs.Ahead.{next-inside, inside-got, name-inside}
 
 -- A term that ends with its atom x and a closing parenthesis.
@@ -84,18 +85,18 @@ module _ (E : Edition) (s : List ℕ) (o w : Token) (f : FormOfWord) (e : f ≡ 
           let i = form-is (form-of-word (text s w) (E .forms)) f binding e q in
           λ small inside n. rw (i .is, i .shape, h n, j)
 
-      pub binder-frame : (b : Token) → x ≡ Got b → (l : Label) → LabelWith (f .kind) b (o .start) l → BeginsWith E s o w (Begun.Frame l (f .arity) (b .end))
+      pub binder-frame : Fits E → (b : Token) → x ≡ Got b → (l : Label) → LabelWith (f .kind) b (o .start) l → BeginsWith E s o w (Begun.Frame l (b .end))
       unfolding known tagged
-      binder-frame b j l a =
+      binder-frame fit b j l a =
           let i = form-is (form-of-word (text s w) (E .forms)) f binding e q in
           let k = inside-got (length s) x b (name-inside s (w .end) x E h) j in
-          λ small inside n. rw (i .is, i .shape, h n, j, i .kind, i .arity, a (omega arith) (omega arith))
+          λ small inside n. rw (i .is, i .shape, h n, j, sym (fit _ _ (i .is) .arity-is), i .kind, a (omega arith) (omega arith))
 
-  pub plain-frame : f .shape ≡ 5 → (l : Label) → LabelAlone (f .kind) (o .start) l → BeginsWith E s o w (Begun.Frame l (f .arity) (w .end))
+  pub plain-frame : Fits E → f .shape ≡ 5 → (l : Label) → LabelAlone (f .kind) (o .start) l → BeginsWith E s o w (Begun.Frame l (w .end))
   unfolding known tagged
-  plain-frame q l a =
+  plain-frame fit q l a =
       let i = form-is (form-of-word (text s w) (E .forms)) f plain e q in
-      λ small inside n. rw (i .is, i .shape, i .kind, i .arity, a (omega arith))
+      λ small inside n. rw (i .is, i .shape, sym (fit _ _ (i .is) .arity-is), i .kind, a (omega arith))
 
   tagged-other : (g : Form) (sh : Shape) (p : Position) → let n = shape-number sh in (n ≡ 2 → ⊥) → (n ≡ 3 → ⊥) → (n ≡ 4 → ⊥) → (n ≡ 5 → ⊥)
       → tagged E s o w g sh p ≡ refused (at-token 1 w)

@@ -5,7 +5,7 @@ use Prim.Native.Nat.{ℕ, _≤_}
 use lib.ListN.{length}
 use Rattle.token.specs.declared.Lexed.{Lexed}
 use Rattle.token.specs.declared.Token.{Token}
-use Rattle.terms.specs.Forms.{Edition}
+use Rattle.terms.specs.Forms.{Edition, arity-of}
 use Rattle.surface.specs.Reader.{Position, Result, done, refused, Reader}
 use Rattle.surface.specs.Reading.{Beginning, leaf, frame, lexed, beginning, Head, head}
 use Rattle.expects.specs.declared.Begun.{Begun}
@@ -19,10 +19,10 @@ position-at at n = record { offset = at; rows = n }
 abbrev pub Reads : List ℕ → Reader Token → ℕ → Lexed → Type 0
 Reads s reader at r = (n : ℕ) → reader (position-at at n) ≡ lexed s n r
 
--- What a term begins with, behind which reading goes on; or the refusal.
+-- What a term begins with, behind which reading goes on; or the refusal. A frame has as many arguments as its kind.
 abbrev pub begun : ℕ → Begun → Result Beginning
 begun n (Begun.Leaf l next) = done (leaf l) (position-at next n)
-begun n (Begun.Frame l arity next) = done (frame l arity) (position-at next n)
+begun n (Begun.Frame l next) = done (frame l (arity-of (l .kind))) (position-at next n)
 begun n (Begun.Refused r) = refused r
 
 -- r is what a term begins with at an offset of a source that is not too long for 32-bit words.

@@ -1,4 +1,4 @@
--- The form of a word as three numbers: how the answer of the code is read.
+-- The form of a word as two numbers: how the answer of the code is read.
 use mathlib.Core.Option.{Option, none, some}
 use mathlib.Core.List.{[], _∷_}
 use Prim.Native.Nat.{ℕ}
@@ -16,8 +16,8 @@ shape-number binding = 4
 shape-number plain = 5
 
 abbrev pub form-numbers : Option Form → FormOfWord
-form-numbers none = record { kind = 0; shape = 0; arity = 0 }
-form-numbers (some f) = record { kind = f .kind; shape = shape-number (f .shape); arity = f .arity }
+form-numbers none = record { kind = 0; shape = 0 }
+form-numbers (some f) = record { kind = f .kind; shape = shape-number (f .shape) }
 
 -- The form of a reserved word by its index, from 1; word 0 is none.
 unfoldable pub form-at : ℕ → FormOfWord

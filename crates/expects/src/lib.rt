@@ -26,10 +26,10 @@ pub enum Format {
     Surface01,
 }
 
-// What a term begins with, and where reading goes on: the whole of a term without arguments, or a frame with its arity.
+// What a term begins with, and where reading goes on: the whole of a term without arguments, or a frame.
 pub enum Begun {
     Leaf(Label, usize),
-    Frame(Label, u32, usize),
+    Frame(Label, usize),
     Refused(Refusal),
 }
 
@@ -43,7 +43,6 @@ pub enum HeadRead {
 pub struct FormOfWord {
     pub kind: u32,
     pub shape: u8,
-    pub arity: u32,
 }
 
 // A refusal of a class, at an offset.
@@ -242,10 +241,8 @@ pub fn declaration_kind(w: &[u8]) -> u32
     k - 2
 }
 
-// The shapes and arities of the words from `universe` on: octal digits, the last one for `universe`. An array would be copied where it is read.
+// The shapes of the words from `universe` on: octal digits, the last one for `universe`. An array would be copied where it is read.
 const SHAPES: u64 = 0o555_115_115_155_555_545_443;
-
-const ARITIES: u64 = 0o241_003_002_061_311_222_120;
 
 // The kind of the form of word k: `ref` is word 6, and the words behind it stand in the order of their kinds.
 fn kind_at(k: u32) -> u32
@@ -275,17 +272,6 @@ fn shape_at(k: u32) -> u8
     ((SHAPES >> (3 * digit)) % 8) as u8
 }
 
-fn arity_at(k: u32) -> u32
-    requires { ⌜ k < 28 ⌝ }
-    ensures { λ r. ⌜ r ≡ form-at k .arity ⌝ }
-{
-    if k < 7 {
-        return 0;
-    }
-    let digit = k as u64 - 7;
-    ((ARITIES >> (3 * digit)) % 8) as u32
-}
-
 // The form of a word of surface 0 1.
 fn surface_form(w: &[u8]) -> FormOfWord
     ensures { λ r. ⌜ r ≡ form-numbers (form-of-word (now (w .entry)) forms) ⌝ }
@@ -294,7 +280,6 @@ fn surface_form(w: &[u8]) -> FormOfWord
     FormOfWord {
         kind: kind_at(k),
         shape: shape_at(k),
-        arity: arity_at(k),
     }
 }
 
@@ -390,14 +375,10 @@ fn begin_tagged(s: &[u8], lparen: Token, t: Token, format: Format) -> Begun
             let x = parse_identifier(s, e, format);
             match x {
                 Lexed::Refused(r) => Begun::Refused(r),
-                Lexed::Got(binder) => Begun::Frame(
-                    label_with(kind, binder, offset),
-                    form.arity,
-                    binder.end,
-                ),
+                Lexed::Got(binder) => Begun::Frame(label_with(kind, binder, offset), binder.end),
             }
         }
-        5 => Begun::Frame(label_alone(kind, offset), form.arity, e),
+        5 => Begun::Frame(label_alone(kind, offset), e),
         _ => Begun::Refused(refused_at(1, a)),
     }
 }

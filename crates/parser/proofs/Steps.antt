@@ -44,18 +44,17 @@ module _ (s : List ℕ) (m : Setting) (sound : Sound s m) (table work : List ℕ
         let a = sound .begins _ _ _ b in
         push-stepped s m table work st l [] next (st .depth) work (leaf-same s m table work st have l next b) i (a .past) (a .high) (i .depth) (i .area) (i .waiting) r table₁ q t
 
-    pub open-step : (l : Label) (n next : ℕ) (area : List ℕ) → x ≡ Begun.Frame l n next → st .depth < m .frames → area ≡ opened work (st .depth) l
+    pub open-step : (l : Label) (next : ℕ) (area : List ℕ) → x ≡ Begun.Frame l next → st .depth < m .frames → area ≡ opened work (st .depth) l
         → length area ≡ length work
         → Went s m table work st (record { at = next; rows = st .rows; depth = st .depth + 1; value = 0; have = false }) table area
-    open-step l n next area e d q k =
+    open-step l next area e d q k =
         let b = begun-at _ e in
         let a = sound .begins _ _ _ b in
-        open-went s m table work st have (sound .arities) l n next b d i area (a .past) (a .high) k
+        open-went s m table work st have (sound .arities) l _ next b d i area (a .past) (a .high) k
         (ap (open-frames area) (add-one (st .depth)) ∙ ap (λ (w : List ℕ). open-frames w (suc (st .depth))) q ∙ frames-opened work (st .depth) (omega (arith, i .area)) l)
 
-    pub deep-step : (l : Label) (n next : ℕ) → x ≡ Begun.Frame l n next → m .frames ≤ st .depth → outcome m table work st ≡ refused (nowhere 7)
-    deep-step l n next e h =
-        too-deep s m table work st have l n next (begun-at _ e) h
+    pub deep-step : (l : Label) (next : ℕ) → x ≡ Begun.Frame l next → m .frames ≤ st .depth → outcome m table work st ≡ refused (nowhere 7)
+    deep-step l next e h = too-deep s m table work st have l _ next (begun-at _ e) h
 
   -- A term is complete, and the frame d, which is the last, takes it.
   module _ (d : ℕ) (have : st .have ≡ true) (deep : st .depth ≡ suc d) where

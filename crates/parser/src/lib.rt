@@ -90,7 +90,7 @@ fn term_step(
             let row = rows::surface_row(label, none, 0);
             push_term(table, rows, row, next, depth, limit)
         }
-        Begun::Frame(label, _, next) => {
+        Begun::Frame(label, next) => {
             if depth < FRAMES {
                 frames::open_frame(work, depth, label);
                 return Step::Go(State {

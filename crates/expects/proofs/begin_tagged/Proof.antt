@@ -1,5 +1,6 @@
 -- `expects::begin_tagged` meets its contract.
 use Rattle.expects.proofs.Ahead.{natural-inside, name-inside, inside-got}
+use Rattle.expects.proofs.Arities.{fitting}
 use Rattle.expects.proofs.Terms.{name-leaf, numeral-leaf, binder-refused, binder-frame, plain-frame, tag-refused}
 use borrow.Author.Needs.{needs}
 use Rattle.expects.proofs.begin_tagged.Statement.{statement}
@@ -76,12 +77,12 @@ returns-4 c =
     let k = c .before .before in
     let x = k .before .before in
     let m = x .before in
-    binder-frame _ _ _ _ _ (m .before .form-of-word .ensures) _ (m .match .keys3) (x .parse-identifier2 .ensures) _ (k .x2 .given .1) _ (c .label-with .ensures)
+    binder-frame _ _ _ _ _ (m .before .form-of-word .ensures) _ (m .match .keys3) (x .parse-identifier2 .ensures) (fitting (m .before .before .before .before .args .format)) _ (k .x2 .given .1) _ (c .label-with .ensures)
 
 returns-5 : tie.Need-returns-5
 returns-5 c =
     let m = c .before in
-    plain-frame _ _ _ _ _ (m .before .form-of-word .ensures) (m .match .keys4) _ (c .label-alone .ensures)
+    plain-frame _ _ _ _ _ (m .before .form-of-word .ensures) (fitting (m .before .before .before .before .args .format)) (m .match .keys4) _ (c .label-alone .ensures)
 
 returns-6 : tie.Need-returns-6
 returns-6 c =

@@ -17,15 +17,11 @@ kind-at-requires c κs = index-low _ _ (c .word-index .ensures)
 shape-at-requires : tie.Need-shape-at-requires
 shape-at-requires c κs = index-low _ _ (c .before .word-index .ensures)
 
-arity-at-requires : tie.Need-arity-at-requires
-arity-at-requires c κs = index-low _ _ (c .before .before .word-index .ensures)
-
 returns : tie.Need-returns
 returns c =
-    let a = c .before .before .kind-at .ensures in
-    let b = c .before .shape-at .ensures in
-    let d = c .arity-at .ensures in
-    (λ i. record { kind = a i; shape = b i; arity = d i }) ∙ form-by-index _ _ (c .before .before .before .word-index .ensures)
+    let a = c .before .kind-at .ensures in
+    let b = c .shape-at .ensures in
+    (λ i. record { kind = a i; shape = b i }) ∙ form-by-index _ _ (c .before .before .word-index .ensures)
 
 pub surface-form-spec : {M : Type 1} → statement M
 surface-form-spec =
@@ -35,5 +31,4 @@ surface-form-spec =
     cast-k
     kind-at-requires
     shape-at-requires
-    arity-at-requires
     returns)

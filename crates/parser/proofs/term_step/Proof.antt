@@ -39,7 +39,7 @@ returns : tie.Need-returns
 returns c =
     let o = c .before .before .before .before .before .before .before .before .before .before .before .before in
     let k = c .before .before .open-frame in
-    open-step (o .args .s .now) _ (surface-sound (o .args .format) (o .args .s .now) (o .args .limit)) (o .args .table .now) (o .args .work .now) (o .args .st) (o .pre .0) _ (o .pre .1) (c .before .before .before .before .before .before .before .before .begin-term .ensures (o .pre .0 .source)) _ _ _ _
+    open-step (o .args .s .now) _ (surface-sound (o .args .format) (o .args .s .now) (o .args .limit)) (o .args .table .now) (o .args .work .now) (o .args .st) (o .pre .0) _ (o .pre .1) (c .before .before .before .before .before .before .before .before .begin-term .ensures (o .pre .0 .source)) _ _ _
     (c .before .before .before .before .before .before .begun3 .given .1) (c .before .before .before .before .if1 .taken) (k .ensures) (k .kept .0)
 
 refused-nowhere-requires : tie.Need-refused-nowhere-requires
@@ -63,7 +63,7 @@ returns-3 c =
 returns-4 : tie.Need-returns-4
 returns-4 c =
     let o = c .before .before .before .before .before .before .before .before .before in
-    deep-step (o .args .s .now) _ (surface-sound (o .args .format) (o .args .s .now) (o .args .limit)) (o .args .table .now) (o .args .work .now) (o .args .st) (o .pre .0) _ (o .pre .1) (c .before .before .before .before .before .begin-term .ensures (o .pre .0 .source)) _ _ _
+    deep-step (o .args .s .now) _ (surface-sound (o .args .format) (o .args .s .now) (o .args .limit)) (o .args .table .now) (o .args .work .now) (o .args .st) (o .pre .0) _ (o .pre .1) (c .before .before .before .before .before .begin-term .ensures (o .pre .0 .source)) _ _
     (c .before .before .before .begun3 .given .1) (c .before .if1 .left) ∙ ap refused (sym (c .refused-nowhere .ensures))
 
 pub term-step-spec : {M : Type 1} → statement M
