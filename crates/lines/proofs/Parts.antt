@@ -1,23 +1,11 @@
--- Parts of a source and of a table that run past the end.
-use Prim.Native.Nat.{ℕ, _+_, _-_, _*_, _/_, _≤_, _<_}
-use mathlib.Core.Path.{_≡_, sym, ap, _∙_}
+-- The rest of a table from a row on.
+use Prim.Native.Nat.{ℕ, _-_, _*_, _/_, _≤_, _<_}
+use mathlib.Core.Path.{_≡_}
 use mathlib.Core.List.{List}
 use native.Mathlib.Omega.{arith}
-use native.Mathlib.Nat.{mul-zero, add-sub-cancel-left, pos-of-ne-zero, le-div-iff-mul-le, div-lt-iff-lt-mul}
+use native.Mathlib.Nat.{mul-zero, pos-of-ne-zero, le-div-iff-mul-le, div-lt-iff-lt-mul}
 use lib.ListN.{length, take, drop, length-drop, drop-of-length-le}
 use lib.Seq.{take-all, take-nil}
-
-module _ (s : List ℕ) (start len : ℕ) where
-  pub part-behind : length s ≤ start → take (length s - length s) (drop (length s) s) ≡ take len (drop start s)
-  part-behind h = rw (drop-of-length-le s {i = length s} (omega arith), drop-of-length-le s h, take-nil, take-nil)
-
-  pub part-cut : length s - start ≤ len → take (length s - start) (drop start s) ≡ take len (drop start s)
-  part-cut h =
-      let n = length-drop start s in
-      take-all (length s - start) (drop start s) (omega arith) ∙ sym (take-all len (drop start s) (omega arith))
-
-  pub part-whole : take (start + len - start) (drop start s) ≡ take len (drop start s)
-  part-whole = ap (λ (n : ℕ). take n (drop start s)) (add-sub-cancel-left start len)
 
 -- Rows of `width` words.
 module _ (t : List ℕ) (width k : ℕ) where

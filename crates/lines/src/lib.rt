@@ -1,5 +1,6 @@
 // The listing's text, written into a lent buffer. Document 01, "The listing".
 // Every function is total: a word behind a table's end is 0, and a part of the source ends with the source.
+use rows::atom;
 use tables::word_at;
 use text::put;
 use text::put_byte;
@@ -61,20 +62,6 @@ fn kind_at(kind: u32) -> Kind
     Kind(0, 0, 0)
 }
 
-// len bytes from start on, as far as there are any.
-fn part_of(s: &[u8], start: usize, len: usize) -> &[u8]
-    ensures { λ r. ⌜ now r ≡ part (now (s .entry)) start len ⌝ }
-{
-    let n = s.len();
-    if n <= start {
-        return &s[n..];
-    }
-    if n - start <= len {
-        return &s[start..];
-    }
-    &s[start..start + len]
-}
-
 // The table from row k on, of rows that have so many words.
 fn rows_from(t: &[u32], width: usize, k: usize) -> &[u32]
     ensures { λ r. ⌜ now r ≡ drop (k * width) (now (t .entry)) ⌝ }
@@ -89,11 +76,11 @@ fn rows_from(t: &[u32], width: usize, k: usize) -> &[u32]
     &t[k * width..]
 }
 
-fn put_part(s: &[u8], start: usize, len: usize, out: &mut [u8], at: usize) -> usize
+fn put_part(s: &[u8], start: u32, len: u32, out: &mut [u8], at: usize) -> usize
     ensures { λ r. ⌜ now (out .exit) ≡ sets (now (out .entry)) at (part (now (s .entry)) start len) ⌝ }
     ensures { λ r. ⌜ r ≡ length-in (now (out .entry)) (at + length (part (now (s .entry)) start len)) ⌝ }
 {
-    put(out, at, part_of(s, start, len))
+    put(out, at, atom(s, start, len))
 }
 
 fn put_kind_word(kind: u32, out: &mut [u8], at: usize) -> usize
@@ -101,7 +88,7 @@ fn put_kind_word(kind: u32, out: &mut [u8], at: usize) -> usize
     ensures { λ r. ⌜ r ≡ length-in (now (out .entry)) (at + length (kind-word kind)) ⌝ }
 {
     let k = kind_at(kind);
-    put_part(&WORDS, k.0 as usize, k.1 as usize, out, at)
+    put_part(&WORDS, k.0 as u32, k.1 as u32, out, at)
 }
 
 fn put_declaration_word(kind: u32, out: &mut [u8], at: usize) -> usize
@@ -145,8 +132,8 @@ fn put_span(s: &[u8], row: &[u32], out: &mut [u8], at: usize) -> usize
     ensures { λ r. ⌜ now (out .exit) ≡ sets (now (out .entry)) at (spaced (part (now (s .entry)) (getD (now (row .entry)) 1 0) (getD (now (row .entry)) 2 0))) ⌝ }
     ensures { λ r. ⌜ r ≡ length-in (now (out .entry)) (at + length (spaced (part (now (s .entry)) (getD (now (row .entry)) 1 0) (getD (now (row .entry)) 2 0)))) ⌝ }
 {
-    let start = word_at(row, 1) as usize;
-    let len = word_at(row, 2) as usize;
+    let start = word_at(row, 1);
+    let len = word_at(row, 2);
     let next = put_byte(out, at, 32);
     put_part(s, start, len, out, next)
 }

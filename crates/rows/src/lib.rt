@@ -1,4 +1,5 @@
-// Rows of eight words and declaration records of five: what each word is, and storing them at a place of a lent table.
+// Rows of eight words and declaration records of five: what each word is, storing them at a place of a lent table,
+// and the part of the source that a row or record names.
 // The port of `TermFrameKind::arity` and `TermFrame::into_term` in surface/parser.rs. Document 01, "The module read", "The core module".
 use terms::Label;
 ghost use mathlib.Core.Path.{_≡_};
@@ -7,6 +8,7 @@ ghost use mathlib.Core.List.{[], _∷_, _++_};
 ghost use lib.Dec.{eqb};
 ghost use lib.ListN.{take};
 ghost use Rattle.terms.specs.Forms.{universe, arity-of, holds-span};
+ghost use Rattle.terms.specs.Label.{part};
 ghost use Rattle.terms.specs.Rows.{pad, row, surface-row};
 ghost use Rattle.rows.specs.Places.{has-place, stored-at};
 
@@ -109,4 +111,21 @@ pub fn store_record(table: &mut [u32], k: usize, record: [u32; 5]) -> bool
         return true;
     }
     false
+}
+
+// A name or numeral as a part of the source; what runs past the end is cut off.
+pub fn atom(s: &[u8], start: u32, length: u32) -> &[u8]
+    ensures { λ r. ⌜ now r ≡ part (now (s .entry)) start length ⌝ }
+{
+    let a = start as usize;
+    let n = length as usize;
+    if s.len() <= a {
+        &s[..0]
+    } else {
+        if s.len() - a <= n {
+            &s[a..]
+        } else {
+            &s[a..a + n]
+        }
+    }
 }

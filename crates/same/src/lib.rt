@@ -2,7 +2,7 @@
 use depends::first_row;
 use depends::row_behind;
 use loader::load;
-use scope::atom;
+use rows::atom;
 use surface::Answer;
 use tables::clear_from;
 use tables::word_at;

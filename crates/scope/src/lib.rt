@@ -1,5 +1,6 @@
 // What a name refers to: a local, the innermost first, or else an earlier declaration. Names are parts of the source, compared by bytes.
 // The port of the lookups in `elaborate_term`, surface/elaborate.rs. Document 01, "The core module".
+use rows::atom;
 ghost use mathlib.Core.Path.{_≡_};
 ghost use Prim.Native.Nat.{ℕ, _+_, _*_, _<_, _≤_};
 ghost use lib.ListN.{length};
@@ -46,23 +47,6 @@ pub enum Referent {
     Var(u32),
     Global(u32),
     Unknown,
-}
-
-// A name or numeral as a part of the source; what runs past the end is cut off.
-pub fn atom(s: &[u8], start: u32, length: u32) -> &[u8]
-    ensures { λ r. ⌜ now r ≡ part (now (s .entry)) start length ⌝ }
-{
-    let a = start as usize;
-    let n = length as usize;
-    if s.len() <= a {
-        &s[..0]
-    } else {
-        if s.len() - a <= n {
-            &s[a..]
-        } else {
-            &s[a..a + n]
-        }
-    }
 }
 
 // Whether a part of the source is the name x: where the part lies in the source, its length is compared first, then its last byte, in which most

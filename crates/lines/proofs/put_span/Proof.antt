@@ -9,14 +9,8 @@ use Rattle.lines.proofs.put_span.Tie as tie
 word-at-requires : tie.Need-word-at-requires
 word-at-requires c κs = search needs
 
-cast-start : tie.Need-cast-start
-cast-start c = search needs
-
 word-at-requires-2 : tie.Need-word-at-requires-2
 word-at-requires-2 c κs = search needs
-
-cast-len : tie.Need-cast-len
-cast-len c = search needs
 
 put-byte-requires : tie.Need-put-byte-requires
 put-byte-requires c κs = search needs
@@ -39,9 +33,7 @@ put-span-spec =
     tie.close
     (tie.spec
     word-at-requires
-    cast-start
     word-at-requires-2
-    cast-len
     put-byte-requires
     put-part-requires
     same-length

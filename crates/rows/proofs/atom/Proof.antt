@@ -1,4 +1,4 @@
--- `atom` meets its contract: each test says which bytes of the source are there.
+-- `rows::atom` meets its contract: each test says which bytes of the source are there.
 use Prim.Native.Nat.{ℕ, _-_}
 use mathlib.Core.Path.{_≡_, sym, ap, _∙_}
 use native.Mathlib.Omega.{arith}
@@ -6,8 +6,8 @@ use native.Mathlib.Nat.{add-sub-cancel-left}
 use lib.ListN.{length, take, drop, length-drop, drop-of-length-le}
 use lib.Seq.{take-all, take-nil}
 use borrow.Author.Needs.{needs}
-use Rattle.scope.proofs.atom.Statement.{statement}
-use Rattle.scope.proofs.atom.Tie as tie
+use Rattle.rows.proofs.atom.Statement.{statement}
+use Rattle.rows.proofs.atom.Tie as tie
 
 slice-aggregate-result : tie.Need-slice-aggregate-result
 slice-aggregate-result c = search needs
