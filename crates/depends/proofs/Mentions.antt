@@ -20,7 +20,8 @@ use Rattle.surface.specs.Reader.{Position, start, done}
 use Rattle.surface.specs.Loading.{Lengths, loading, Outcome, outcome}
 use Rattle.surface.specs.Dependence.{Answers}
 use Rattle.surface.proofs.Acceptance.{is-read, is-loaded}
-use Rattle.depends.specs.inner.Search.{global-at, first-global, row-behind, first-row, mention}
+use Rattle.rows.specs.DeclarationRows.{row-behind, first-row}
+use Rattle.depends.specs.inner.Search.{global-at, first-global, mention}
 use Rattle.depends.proofs.Ranges.{first-of, behind-of, first-is-behind, behind-inside, first-of-zero, count-resolved, InRange, to-range, from-range, last-in-record}
 
 -- Word j of row k in a table that has room for all rows.

@@ -1,15 +1,16 @@
 -- The search in a core table, step by step.
-use mathlib.Core.Path.{_≡_, refl, ap, _∙_}
+use mathlib.Core.Path.{_≡_, ap, _∙_}
 use mathlib.Core.Bool.{Bool, true, false, _&&_}
 use mathlib.Core.List.{List}
-use Prim.Native.Nat.{ℕ, zero, suc, _+_, _-_, _*_, _/_, _<_, _≤_, max}
+use Prim.Native.Nat.{ℕ, suc, _+_, _-_, _*_, _/_, _<_, _≤_}
 use native.Mathlib.Omega.{arith}
 use lib.Dec.{eqb}
 use lib.ListN.{length, getD, List·getD-eq-default}
 use borrow.Author.Tests.{eq-eqb, ne-eqb}
 use Rattle.surface.specs.declared.Dependence.{Dependence}
 use Rattle.surface.specs.declared.Dependence.the-variants.{Yes, No}
-use Rattle.depends.specs.inner.Search.{global-at, first-global, row-behind, first-row, mention}
+use Rattle.rows.specs.DeclarationRows.{row-behind, first-row}
+use Rattle.depends.specs.inner.Search.{global-at, first-global, mention}
 
 -- By the two words of a row.
 module _ (core : List ℕ) (j k : ℕ) where
@@ -43,32 +44,6 @@ module _ (core : List ℕ) (j to k : ℕ) where
   pub ended : to ≤ k → first-global core j (to - k) k ≡ No
   unfolding first-global
   ended h = let n : to - k ≡ 0 = omega arith in ap (λ (m : ℕ). first-global core j m k) n
-
--- The row behind a declaration, by its two rows.
-module _ (t : List ℕ) (i : ℕ) where
-  pub behind-none : length t / 5 < i → row-behind t i ≡ 1
-  unfolding row-behind
-  behind-none h =
-      let e : getD t (i * 5 + 3) 0 ≡ 0 = List·getD-eq-default t 0 (omega arith) in
-      let f : getD t (i * 5 + 4) 0 ≡ 0 = List·getD-eq-default t 0 (omega arith) in
-      omega (arith, e, f)
-
-  pub behind-body : getD t (i * 5 + 3) 0 < getD t (i * 5 + 4) 0 → row-behind t i ≡ getD t (i * 5 + 4) 0 + 1
-  unfolding row-behind
-  behind-body h = omega (arith, h)
-
-  pub behind-type : getD t (i * 5 + 4) 0 ≤ getD t (i * 5 + 3) 0 → row-behind t i ≡ getD t (i * 5 + 3) 0 + 1
-  unfolding row-behind
-  behind-type h = omega (arith, h)
-
-pub first-zero : (t : List ℕ) (i : ℕ) → i ≡ 0 → first-row t i ≡ 0
-unfolding first-row
-first-zero t i e = ap (first-row t) e
-
-pub first-after : (t : List ℕ) (i : ℕ) → (i ≡ 0 → ⊥) → first-row t i ≡ row-behind t (i - 1)
-unfolding first-row
-first-after t zero n = absurd (n refl)
-first-after t (suc i) n = let e : i ≡ suc i - 1 = omega arith in ap (row-behind t) e
 
 pub mention-is : (core t : List ℕ) (i j from to : ℕ) (r : Dependence) → from ≡ first-row t i → to ≡ row-behind t i → r ≡ first-global core j (to - from) from → r ≡ mention core t i j
 unfolding mention

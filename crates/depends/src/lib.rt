@@ -1,4 +1,6 @@
 // The dependence question of document 01: a source is loaded, and the rows of one declaration are searched for a global row of another.
+use rows::first_row;
+use rows::row_behind;
 use surface::Answer;
 use surface::Dependence;
 use tables::clear_from;
@@ -14,7 +16,7 @@ ghost use Rattle.surface.specs.Reader.{nowhere};
 ghost use Rattle.surface.specs.declared.Dependence as Dependence;
 ghost use Rattle.surface.specs.Tables.{tables};
 ghost use Rattle.surface.specs.Dependence.{Asks};
-ghost use Rattle.depends.specs.inner.Search.{global-at, row-behind, first-row, first-global, mention};
+ghost use Rattle.depends.specs.inner.Search.{global-at, first-global, mention};
 
 // Whether row k is a global row j. Behind the table there is none.
 fn is_global(core: &[u32], k: usize, j: usize) -> bool
@@ -43,30 +45,6 @@ fn find_global(core: &[u32], from: usize, to: usize, j: usize) -> Dependence
         k += 1;
     }
     Dependence::No
-}
-
-// The row behind those of declaration i. Its body's row is its last, or its type's where there is no body, whose row is then 0.
-pub fn row_behind(declarations: &[u32], i: usize) -> usize
-    ensures { λ r. ⌜ r ≡ row-behind (now (declarations .entry)) i ⌝ }
-{
-    if declarations.len() / 5 < i {
-        return 1;
-    }
-    let type_row = word_at(declarations, i * 5 + 3);
-    let body_row = word_at(declarations, i * 5 + 4);
-    if type_row < body_row {
-        return body_row as usize + 1;
-    }
-    type_row as usize + 1
-}
-
-pub fn first_row(declarations: &[u32], i: usize) -> usize
-    ensures { λ r. ⌜ r ≡ first-row (now (declarations .entry)) i ⌝ }
-{
-    if i == 0 {
-        return 0;
-    }
-    row_behind(declarations, i - 1)
 }
 
 // A row of declaration i that is a global row j.

@@ -1,3 +1,4 @@
 pub mod Arities
 pub mod Words
 pub mod Storing
+pub mod DeclarationRows

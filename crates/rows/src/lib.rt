@@ -1,6 +1,7 @@
-// Rows of eight words and declaration records of five: what each word is, storing them at a place of a lent table,
-// and the part of the source that a row or record names.
+// Rows of eight words and declaration records of five: what each word is, storing them at a place of a lent table, the part of the
+// source that a row or record names, and the rows of a declaration.
 // The port of `TermFrameKind::arity` and `TermFrame::into_term` in surface/parser.rs. Document 01, "The module read", "The core module".
+use tables::word_at;
 use terms::Label;
 ghost use mathlib.Core.Path.{_≡_};
 ghost use mathlib.Core.Bool.{cond};
@@ -11,6 +12,7 @@ ghost use Rattle.terms.specs.Forms.{universe, arity-of, holds-span};
 ghost use Rattle.terms.specs.Label.{part};
 ghost use Rattle.terms.specs.Rows.{pad, row, surface-row};
 ghost use Rattle.rows.specs.Places.{has-place, stored-at};
+ghost use Rattle.rows.specs.DeclarationRows.{row-behind, first-row};
 
 // How many arguments a term of each kind has: octal digits, the last one for kind 3. An array would be copied where it is read.
 const ARITIES: u64 = 0o241_003_002_061_311_222_120;
@@ -128,4 +130,28 @@ pub fn atom(s: &[u8], start: u32, length: u32) -> &[u8]
             &s[a..a + n]
         }
     }
+}
+
+// The row behind those of declaration i. Its body's row is its last, or its type's where there is no body, whose row is then 0.
+pub fn row_behind(declarations: &[u32], i: usize) -> usize
+    ensures { λ r. ⌜ r ≡ row-behind (now (declarations .entry)) i ⌝ }
+{
+    if declarations.len() / 5 < i {
+        return 1;
+    }
+    let type_row = word_at(declarations, i * 5 + 3);
+    let body_row = word_at(declarations, i * 5 + 4);
+    if type_row < body_row {
+        return body_row as usize + 1;
+    }
+    type_row as usize + 1
+}
+
+pub fn first_row(declarations: &[u32], i: usize) -> usize
+    ensures { λ r. ⌜ r ≡ first-row (now (declarations .entry)) i ⌝ }
+{
+    if i == 0 {
+        return 0;
+    }
+    row_behind(declarations, i - 1)
 }

@@ -9,7 +9,7 @@ use native.Mathlib.Decide.{decLt}
 use native.Mathlib.Numerals.{add-one}
 use lib.ListN.{getD}
 use borrow.Author.Count.{below-more}
-use Rattle.depends.specs.inner.Search.{row-behind, first-row}
+use Rattle.rows.specs.DeclarationRows.{row-behind, first-row}
 use Rattle.same.specs.inner.Contents.{Decides, SameRows, SameRecord, SameDeclaration, SameBefore, FirstDifferent}
 use Rattle.same.proofs.Contents.{decides, holds, fails}
 

@@ -7,7 +7,7 @@ use native.Mathlib.Nat.{suc-mul, zero-mul, zero-add}
 use native.Mathlib.Numerals.{add-one}
 use lib.ListN.{length, getD, take, drop, List·getD-append, List·getD-map, length-map, length-take, length-append}
 use lib.Seq.{drop-cons, drop-drop, getD-take}
-use Rattle.depends.specs.inner.Search.{row-behind, first-row}
+use Rattle.rows.specs.DeclarationRows.{row-behind, first-row}
 use Rattle.terms.specs.Label.{NamedDeclaration}
 use Rattle.terms.specs.Rows.{first-rows}
 use Rattle.terms.specs.Content.{RowContent, row-content, RecordContent, record-content}

@@ -7,7 +7,7 @@ use native.Mathlib.Decide.{decLt}
 use native.Mathlib.Omega.{arith}
 use lib.ListN.{length, getD, take, length-take}
 use lib.Seq.{take-length, length-take-le, ext-getD}
-use Rattle.depends.specs.inner.Search.{first-row}
+use Rattle.rows.specs.DeclarationRows.{first-row}
 use Rattle.terms.specs.Label.{NamedDeclaration}
 use Rattle.terms.specs.Content.{RowContent, RecordContent}
 use Rattle.terms.specs.Agreement.{AgreeModule}

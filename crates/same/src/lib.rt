@@ -1,8 +1,8 @@
 // The same-core question: whether two sources leave the same core, and otherwise where they part. Ours, beyond document 01.
-use depends::first_row;
-use depends::row_behind;
 use loader::load;
 use rows::atom;
+use rows::first_row;
+use rows::row_behind;
 use surface::Answer;
 use tables::clear_from;
 use tables::word_at;

@@ -1,9 +1,10 @@
 -- How the rows of a declaration are searched in a core table and a declaration list.
 use mathlib.Core.Bool.{Bool, true, false, _&&_}
 use mathlib.Core.List.{List}
-use Prim.Native.Nat.{ℕ, zero, suc, _+_, _-_, _*_, max}
+use Prim.Native.Nat.{ℕ, zero, suc, _+_, _-_, _*_}
 use lib.Dec.{eqb}
 use lib.ListN.{getD}
+use Rattle.rows.specs.DeclarationRows.{row-behind, first-row}
 use Rattle.surface.specs.declared.Dependence.{Dependence}
 use Rattle.surface.specs.declared.Dependence.the-variants.{Yes, No}
 
@@ -15,14 +16,6 @@ global-at core j k = eqb (getD core (k * 8) 0) 2 && eqb (getD core (k * 8 + 1) 0
 unfoldable pub first-global : List ℕ → ℕ → ℕ → ℕ → Dependence
 first-global core j zero k = No
 first-global core j (suc n) k = elim (global-at core j k) [ true ↦ Yes k | false ↦ first-global core j n (k + 1) ]
-
--- The row behind those of declaration i: its last row is its body's, or its type's.
-unfoldable pub row-behind : List ℕ → ℕ → ℕ
-row-behind declarations i = max (getD declarations (i * 5 + 3) 0) (getD declarations (i * 5 + 4) 0) + 1
-
-unfoldable pub first-row : List ℕ → ℕ → ℕ
-first-row declarations zero = 0
-first-row declarations (suc i) = row-behind declarations i
 
 -- A row among those of declaration i.
 unfoldable pub mention : List ℕ → List ℕ → ℕ → ℕ → Dependence

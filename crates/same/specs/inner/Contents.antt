@@ -5,7 +5,7 @@ use mathlib.Core.Bool.{Bool, true, false}
 use Prim.Native.Nat.{ℕ, zero, suc, _+_, _*_, _≤_, _<_}
 use lib.ListN.{getD}
 use Rattle.terms.specs.Label.{part}
-use Rattle.depends.specs.inner.Search.{row-behind, first-row}
+use Rattle.rows.specs.DeclarationRows.{row-behind, first-row}
 use Rattle.terms.specs.Content.{row-content, record-content}
 use Rattle.same.specs.declared.Comparison.{Comparison}
 

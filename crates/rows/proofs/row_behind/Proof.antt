@@ -1,11 +1,11 @@
--- `depends::row_behind` meets its contract.
+-- `rows::row_behind` meets its contract.
 use native.Mathlib.Omega.{arith}
 use Prim.Native.Nat.{ℕ, _+_}
 use mathlib.Core.Path.{_≡_, sym, ap, _∙_}
-use Rattle.depends.proofs.Searching.{behind-none, behind-body, behind-type}
+use Rattle.rows.proofs.DeclarationRows.{behind-none, behind-body, behind-type}
 use borrow.Author.Needs.{needs}
-use Rattle.depends.proofs.row_behind.Statement.{statement}
-use Rattle.depends.proofs.row_behind.Tie as tie
+use Rattle.rows.proofs.row_behind.Statement.{statement}
+use Rattle.rows.proofs.row_behind.Tie as tie
 
 returns : tie.Need-returns
 returns c = let a = c .before .before .args in sym (behind-none (a .declarations .now) (a .i) (search needs))

@@ -1,10 +1,10 @@
--- `depends::first_row` meets its contract.
+-- `rows::first_row` meets its contract.
 use native.Mathlib.Omega.{arith}
 use mathlib.Core.Path.{_≡_, sym, ap, _∙_}
-use Rattle.depends.proofs.Searching.{first-zero, first-after}
+use Rattle.rows.proofs.DeclarationRows.{first-zero, first-after}
 use borrow.Author.Needs.{needs}
-use Rattle.depends.proofs.first_row.Statement.{statement}
-use Rattle.depends.proofs.first_row.Tie as tie
+use Rattle.rows.proofs.first_row.Statement.{statement}
+use Rattle.rows.proofs.first_row.Tie as tie
 
 returns : tie.Need-returns
 returns c = let a = c .before .before .args in sym (first-zero (a .declarations .now) (a .i) (search needs))
