@@ -12,17 +12,17 @@ use lib.ListN.{length, getD, replicate, length-replicate, getD-replicate, List·
 use Rattle.terms.specs.Label.{part}
 use Rattle.terms.specs.Resolution.{find, refused-name}
 use Rattle.scope.specs.Scope.{declared-names}
-use Rattle.elaborate.specs.RowTerm.{Outcome, done, unknown-at, and-then, row-term}
+use Rattle.elaborate.specs.RowTerm.{TermOutcome, done, unknown-at, and-then, row-term}
 use Rattle.elaborate.specs.Machine.{Answered}
 use Rattle.elaborate.specs.Declarations.{Fitting, Whether, Blank, ModuleOutcome, refused, module-outcome, parts-outcome, record-word, declaration-outcome, Declared}
 use Rattle.elaborate.specs.declared.TermDone.{TermDone}
 use Rattle.elaborate.specs.declared.Elaborated.{Elaborated}
 
-pub when-done : (o : Outcome) (r : TermDone) (core : List ℕ) → Answered o r core → r ≡ TermDone.Done → o ≡ done core
+pub when-done : (o : TermOutcome) (r : TermDone) (core : List ℕ) → Answered o r core → r ≡ TermDone.Done → o ≡ done core
 when-done (done c) r core h e = ap done (sym (h .1))
 when-done (unknown-at a n) r core h e = absurd (let z : _≡_ {A = ℕ} 0 1 = cc in omega arith)
 
-pub when-unknown : (o : Outcome) (r : TermDone) (core : List ℕ) (a n : ℕ) → Answered o r core → r ≡ TermDone.Unknown a n → o ≡ unknown-at a n
+pub when-unknown : (o : TermOutcome) (r : TermDone) (core : List ℕ) (a n : ℕ) → Answered o r core → r ≡ TermDone.Unknown a n → o ≡ unknown-at a n
 when-unknown (done c) r core a n h e = absurd (let z : _≡_ {A = ℕ} 0 1 = cc in omega arith)
 when-unknown (unknown-at x y) r core a n h e =
     let p : x ≡ a = cc in
@@ -31,10 +31,10 @@ when-unknown (unknown-at x y) r core a n h e =
 
 module _ (s surface declarations : List ℕ) (rows d : ℕ) where
   module _ (kind type body : ℕ) (core : List ℕ) where
-    abbrev parts : Outcome
+    abbrev parts : TermOutcome
     parts = parts-outcome s surface declarations rows d kind type body core
 
-    abbrev first : Outcome
+    abbrev first : TermOutcome
     first = row-term s surface declarations rows d 512 type [] core
 
     pub type-unknown : (a n : ℕ) (r : List ℕ) → first ≡ unknown-at a n → Answered parts (TermDone.Unknown a n) r
@@ -57,7 +57,7 @@ module _ (s surface declarations : List ℕ) (rows d : ℕ) where
     abbrev whole : ModuleOutcome
     whole = declaration-outcome s surface declarations rows d core
 
-    abbrev both : Outcome
+    abbrev both : TermOutcome
     both = parts-outcome s surface declarations rows d (getD declarations (d * 5) 0) (record-word s surface declarations rows d 3) (record-word s surface declarations rows d 4) core
 
     pub duplicate : (i : ℕ) (e : Elaborated) → some i ≡ name-found → e ≡ Elaborated.Refused 4 (record-word s surface declarations rows d 1) (record-word s surface declarations rows d 2) → Declared whole e core₁

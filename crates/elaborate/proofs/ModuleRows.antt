@@ -18,7 +18,7 @@ use Rattle.terms.proofs.Cells.{next-cells}
 use Rattle.terms.proofs.Tables.{Wide}
 use Rattle.terms.proofs.Widths.{wide-surface, wide-records, count-records}
 use Rattle.scope.specs.Scope.{declared-names}
-use Rattle.elaborate.specs.RowTerm.{Outcome, done, unknown-at, and-then, arguments, row-term}
+use Rattle.elaborate.specs.RowTerm.{TermOutcome, done, unknown-at, and-then, arguments, row-term}
 use Rattle.elaborate.specs.Loadable.{Shaped, Nested, Bodied, WellRead, Loadable}
 use Rattle.elaborate.specs.Declarations.{Fitting, ModuleOutcome, refused, module-outcome, parts-outcome, record-word, declaration-outcome}
 use Rattle.elaborate.proofs.RowWords.{place, word-of, first-word-of}
@@ -102,10 +102,10 @@ module _ (s surface declarations : List ℕ) (rows d : ℕ) where
   abbrev globals : List Name
   globals = declared-names s declarations 0 d
 
-  abbrev R : ℕ → List Name → List ℕ → Outcome
+  abbrev R : ℕ → List Name → List ℕ → TermOutcome
   R = row-term s surface declarations rows d 512
 
-  and-done : (o : Outcome) → and-then o (λ c. done c) ≡ o
+  and-done : (o : TermOutcome) → and-then o (λ c. done c) ≡ o
   unfolding and-then
   and-done (done c) = refl
   and-done (unknown-at a n) = refl
@@ -120,7 +120,7 @@ module _ (s surface declarations : List ℕ) (rows d : ℕ) where
       rest : Option (Tree Label) → Forest Label
       rest o = maybe o nil (λ b. tree b nil)
 
-      one : List ℕ → Outcome
+      one : List ℕ → TermOutcome
       one y = R type [] y
 
       go : (o : Option (Tree Label)) → Bodied (x .kind) o → body ≡ getD (pad 1 (roots (suc (next k (x .type .args))) (rest o))) 0 0

@@ -17,17 +17,17 @@ use Rattle.terms.proofs.FormTable.{arity-universe, arity-ref}
 use Rattle.rows.specs.Places.{stored-at}
 use Rattle.rows.proofs.Arities.{arity-at-most-six}
 use Rattle.stacks.specs.declared.Work.{Work}
-use Rattle.elaborate.specs.RowTerm.{row-word, label-at, six-at, children-at, Outcome, done, unknown-at, and-then, arguments, core-at, row-term}
+use Rattle.elaborate.specs.RowTerm.{row-word, label-at, six-at, children-at, TermOutcome, done, unknown-at, and-then, arguments, core-at, row-term}
 use Rattle.elaborate.specs.Machine.{form-label, scheduled-one, scheduled, run}
 use Rattle.elaborate.proofs.Finishing.{length-six}
 use Rattle.elaborate.proofs.Visiting.{row-visit, visit-known}
 
-seq : (o : Outcome) (f g h : List ℕ → Outcome) → ((c : List ℕ) → f c ≡ and-then (g c) h) → and-then o f ≡ and-then (and-then o g) h
+seq : (o : TermOutcome) (f g h : List ℕ → TermOutcome) → ((c : List ℕ) → f c ≡ and-then (g c) h) → and-then o f ≡ and-then (and-then o g) h
 unfolding and-then
 seq (done c) f g h e = e c
 seq (unknown-at a n) f g h e = refl
 
-seq-done : (o : Outcome) (f h : List ℕ → Outcome) (g : List ℕ → List ℕ) → ((c : List ℕ) → h (g c) ≡ f c) → and-then (and-then o (λ c. done (g c))) h ≡ and-then o f
+seq-done : (o : TermOutcome) (f h : List ℕ → TermOutcome) (g : List ℕ → List ℕ) → ((c : List ℕ) → h (g c) ≡ f c) → and-then (and-then o (λ c. done (g c))) h ≡ and-then o f
 unfolding and-then
 seq-done (done c) f h g e = e c
 seq-done (unknown-at a n) f h g e = refl
@@ -44,10 +44,10 @@ length-children surface id =
     length-take-le (arity-of k) (six-at surface id (holds-span k)) (omega (arith, length-six surface id (holds-span k), arity-at-most-six k))
 
 module _ (s surface declarations : List ℕ) (rows d : ℕ) where
-  abbrev R : ℕ → ℕ → List Name → List ℕ → Outcome
+  abbrev R : ℕ → ℕ → List Name → List ℕ → TermOutcome
   R = row-term s surface declarations rows d
 
-  abbrev runs : List Work → List Name → List ℕ → List ℕ → Outcome
+  abbrev runs : List Work → List Name → List ℕ → List ℕ → TermOutcome
   runs = run s surface declarations rows d
 
   run-one : (b : Bool) (a n left id : ℕ) (works : List Work) (locals : List Name) (values core : List ℕ)
@@ -76,11 +76,11 @@ module _ (s surface declarations : List ℕ) (rows d : ℕ) where
   module _ (id : ℕ) (locals : List Name) (core : List ℕ) (works : List Work) (values : List ℕ) where
     pub run-row : (left : ℕ) (c : List ℕ) → R left id locals core ≡ done c → runs (Work.Eval id left ∷ works) locals values core ≡ runs works locals (values ++ (id ∷ [])) c
     unfolding run and-then
-    run-row left c e = ap (λ (o : Outcome). and-then o (λ x. runs works locals (values ++ (id ∷ [])) x)) e
+    run-row left c e = ap (λ (o : TermOutcome). and-then o (λ x. runs works locals (values ++ (id ∷ [])) x)) e
 
     pub run-unknown : (left a n : ℕ) → R left id locals core ≡ unknown-at a n → runs (Work.Eval id left ∷ works) locals values core ≡ unknown-at a n
     unfolding run and-then
-    run-unknown left a n e = ap (λ (o : Outcome). and-then o (λ x. runs works locals (values ++ (id ∷ [])) x)) e
+    run-unknown left a n e = ap (λ (o : TermOutcome). and-then o (λ x. runs works locals (values ++ (id ∷ [])) x)) e
 
     -- A form comes to its arguments and then its row.
     pub run-form : (left : ℕ) → ltb id rows ≡ true → (arity-of (getD surface (id * 8) 0) ≡ 0 → ⊥)
@@ -95,7 +95,7 @@ module _ (s surface declarations : List ℕ) (rows d : ℕ) where
         let kept-at : at ≡ kept = core-of-kept s locals _ l (λ e. z (ap arity-of e ∙ arity-ref)) in
         let n : length (values ++ ids) - arity-of k ≡ length values = omega (arith, length-append values ids, length-children surface id) in
         let words : core-words l at ids ≡ core-words (form-label k) kept ids = ap (λ (x : Core). core-words l x ids) kept-at ∙ form-words l ids z in
-        ap (λ (o : Outcome). and-then o (λ x. runs works locals (values ++ (id ∷ [])) x))
+        ap (λ (o : TermOutcome). and-then o (λ x. runs works locals (values ++ (id ∷ [])) x))
         (row-visit s surface declarations rows d (suc left) id locals core ∙ visit-known s surface declarations rows d (R left) id locals core h (ap is-unknown kept-at))
         ∙ seq-done (arguments (R left) (locals-in s l locals) ids core) (λ c. runs (Work.Build k id ∷ works) locals (values ++ ids) c) _ _
         (λ c. ap₂ (λ (v w : List ℕ). runs works locals (v ++ (id ∷ [])) (stored-at 8 c id w))

@@ -17,10 +17,10 @@ use Rattle.scope.specs.Scope.{local-names, declared-names, reference}
 use Rattle.stacks.specs.Stacks.{works-in, values-in, WorkPushed, LocalPushed}
 use Rattle.stacks.specs.declared.Work.{Work}
 use Rattle.stacks.proofs.Decoding.{length-works, length-values, values-below}
-use Rattle.elaborate.specs.RowTerm.{row-word, label-at, children-at, Outcome, done, unknown-at, and-then, arguments, core-at, visit, row-term}
-use Rattle.elaborate.specs.Machine.{form-label, outer, scheduled, run, Room, weight, RowDone, ReferenceDone, without-arguments, form-row, outcome, Went, Stepped}
+use Rattle.elaborate.specs.RowTerm.{row-word, label-at, children-at, TermOutcome, done, unknown-at, and-then, arguments, core-at, visit, row-term}
+use Rattle.elaborate.specs.Machine.{form-label, outer, scheduled, run, Room, weight, RowDone, ReferenceDone, without-arguments, form-row, outcome, Went, WorkStepped}
 use Rattle.elaborate.specs.declared.State.{State}
-use Rattle.elaborate.specs.declared.Step.{Step}
+use Rattle.elaborate.specs.declared.WorkStep.{WorkStep}
 use Rattle.elaborate.proofs.Visiting.{row-visit, visit-out, visit-unknown, visit-known, visit-leaf, inner}
 use Rattle.elaborate.proofs.Running.{run-row, run-unknown, run-form, length-children}
 use Rattle.elaborate.proofs.Rooms.{items, items-few, length-scheduled, room-scheduled, weight-positive, form-less}
@@ -65,12 +65,12 @@ module _ (s surface declarations : List ℕ) (rows d : ℕ) (core work : List �
   pub as-state : {items : List Work} {st₁ st₂ : State} {core₁ work₁ : List ℕ} → st₁ ≡ st₂ → W items st₂ core₁ work₁ → W items st₁ core₁ work₁
   as-state {items} {st₁} {st₂} {core₁} {work₁} e h = subst (λ (x : State). W items x core₁ work₁) (sym e) h
 
-  pub stopped : (items : List Work) (step : Step) (core₁ work₁ : List ℕ) (a n : ℕ) → step ≡ Step.Unknown a n → outcome s surface declarations rows d items work st core ≡ unknown-at a n
-      → Stepped s surface declarations rows d items work st core step core₁ work₁
-  stopped items step core₁ work₁ a n e h = subst (λ (x : Step). Stepped s surface declarations rows d items work st core x core₁ work₁) (sym e) h
+  pub stopped : (items : List Work) (step : WorkStep) (core₁ work₁ : List ℕ) (a n : ℕ) → step ≡ WorkStep.Unknown a n → outcome s surface declarations rows d items work st core ≡ unknown-at a n
+      → WorkStepped s surface declarations rows d items work st core step core₁ work₁
+  stopped items step core₁ work₁ a n e h = subst (λ (x : WorkStep). WorkStepped s surface declarations rows d items work st core x core₁ work₁) (sym e) h
 
   module _ (id left : ℕ) (room : Room (Work.Eval id left ∷ works) (st .values) (st .locals)) where
-    abbrev R : Outcome
+    abbrev R : TermOutcome
     R = row-term s surface declarations rows d left id locals core
 
     -- The row is stored.
@@ -94,7 +94,7 @@ module _ (s surface declarations : List ℕ) (rows d : ℕ) (core work : List �
     stops : (a n : ℕ) → R ≡ unknown-at a n → outcome s surface declarations rows d (Work.Eval id left ∷ works) work st core ≡ unknown-at a n
     stops a n e = run-unknown s surface declarations rows d id locals core works values left a n e
 
-    abbrev Q : ℕ → List Name → List ℕ → Outcome
+    abbrev Q : ℕ → List Name → List ℕ → TermOutcome
     Q = inner s surface declarations rows d left
 
     visits : R ≡ visit s surface declarations rows d Q id locals core
@@ -113,17 +113,17 @@ module _ (s surface declarations : List ℕ) (rows d : ℕ) (core work : List �
       abbrev size : ℕ
       size = row-word surface id 2
 
-      pub reference-stepped : (step : Step) (core₁ work₁ : List ℕ) → k ≡ ref
+      pub reference-stepped : (step : WorkStep) (core₁ work₁ : List ℕ) → k ≡ ref
           → ReferenceDone (core-of s locals (declared-names s declarations 0 d) (reference start size)) start size id st core work step core₁ work₁
-          → Stepped s surface declarations rows d (Work.Eval id left ∷ works) work st core step core₁ work₁
-      reference-stepped (Step.Go st₁) core₁ work₁ e h =
+          → WorkStepped s surface declarations rows d (Work.Eval id left ∷ works) work st core step core₁ work₁
+      reference-stepped (WorkStep.Go st₁) core₁ work₁ e h =
           let l : label-at surface id ≡ reference start size = λ i. record { kind = e i; start = start; length = size; offset = 0 } in
           let c = ap (core-of s locals (declared-names s declarations 0 d)) l in
           finished _ st₁ core₁ work₁
           (visits ∙ visit-leaf s surface declarations rows d Q id locals core (lt-ltb id rows there) (ap is-unknown c ∙ h .0) (ap arity-of e ∙ arity-ref)
           ∙ (λ i. done (stored-at 8 core id (core-words (l i) (c i) []))))
           (h .1)
-      reference-stepped (Step.Unknown a n) core₁ work₁ e h =
+      reference-stepped (WorkStep.Unknown a n) core₁ work₁ e h =
           let l : label-at surface id ≡ reference start size = λ i. record { kind = e i; start = start; length = size; offset = 0 } in
           let c = ap (core-of s locals (declared-names s declarations 0 d)) l in
           stops a n
@@ -146,10 +146,10 @@ module _ (s surface declarations : List ℕ) (rows d : ℕ) (core work : List �
         pub too-deep : (arity-of k ≡ 0 → ⊥) → left ≡ 0 → outcome s surface declarations rows d (Work.Eval id left ∷ works) work st core ≡ unknown-at 0 0
         unfolding and-then
         too-deep z e =
-            let f : List ℕ → Outcome = λ c. done (stored-at 8 c id (core-words (label-at surface id) (core-at s surface declarations rows d id locals) (children-at surface id))) in
+            let f : List ℕ → TermOutcome = λ c. done (stored-at 8 c id (core-words (label-at surface id) (core-at s surface declarations rows d id locals) (children-at surface id))) in
             stops 0 0
             (visits ∙ visit-known s surface declarations rows d Q id locals core (lt-ltb id rows there) (ap is-unknown is-kept)
-            ∙ ap (λ (o : Outcome). and-then o f)
+            ∙ ap (λ (o : TermOutcome). and-then o f)
             (ap (λ (n : ℕ). arguments (inner s surface declarations rows d n) (locals-in s (label-at surface id) locals) (children-at surface id) core) e
             ∙ arguments-stop (children-at surface id) _ core (λ q. z (sym (length-children surface id) ∙ ap length q))))
 
@@ -254,13 +254,13 @@ module _ (s surface declarations : List ℕ) (rows d : ℕ) (core work : List �
   same-outcome : (items : List Work) → outcome s surface declarations rows d items work st core ≡ outcome s surface declarations rows d items work st' core
   same-outcome items = ap (λ (x : State). outcome s surface declarations rows d items work x core) (sym q)
 
-  pub top-stepped : (items : List Work) (step : Step) (core₁ work₁ : List ℕ) → works-in work (st .works) ≡ items → Stepped s surface declarations rows d items work st' core step core₁ work₁
-      → Stepped s surface declarations rows d (works-in work (st .works)) work st core step core₁ work₁
-  top-stepped items (Step.Go st₁) core₁ work₁ e h = record {
+  pub top-stepped : (items : List Work) (step : WorkStep) (core₁ work₁ : List ℕ) → works-in work (st .works) ≡ items → WorkStepped s surface declarations rows d items work st' core step core₁ work₁
+      → WorkStepped s surface declarations rows d (works-in work (st .works)) work st core step core₁ work₁
+  top-stepped items (WorkStep.Go st₁) core₁ work₁ e h = record {
     same = ap (λ (x : List Work). outcome s surface declarations rows d x work st core) e ∙ same-outcome items ∙ h .same;
     less = subst (λ (x : List Work). weight (works-in work₁ (st₁ .works)) < weight x) (sym e) (h .less);
     room = h .room;
     fits = h .fits;
   }
-  top-stepped items (Step.Unknown a n) core₁ work₁ e h =
+  top-stepped items (WorkStep.Unknown a n) core₁ work₁ e h =
       ap (λ (x : List Work). outcome s surface declarations rows d x work st core) e ∙ same-outcome items ∙ h

@@ -7,28 +7,28 @@ use lib.ListN.{length}
 use Rattle.scope.specs.Scope.{local-names}
 use Rattle.stacks.specs.Stacks.{works-in, values-in, WorkPushed}
 use Rattle.stacks.specs.declared.Work.{Work}
-use Rattle.elaborate.specs.RowTerm.{Outcome, done, unknown-at, and-then, row-term}
-use Rattle.elaborate.specs.Machine.{run, Room, Inside, outcome, Went, Stepped, Answered}
+use Rattle.elaborate.specs.RowTerm.{TermOutcome, done, unknown-at, and-then, row-term}
+use Rattle.elaborate.specs.Machine.{run, Room, RowsInside, outcome, Went, WorkStepped, Answered}
 use Rattle.elaborate.specs.declared.State.{State}
-use Rattle.elaborate.specs.declared.Step.{Step}
+use Rattle.elaborate.specs.declared.WorkStep.{WorkStep}
 use Rattle.elaborate.specs.declared.TermDone.{TermDone}
 
 module _ (s surface declarations index : List ℕ) (rows d root : ℕ) (core₀ : List ℕ) where
-  abbrev whole : Outcome
+  abbrev whole : TermOutcome
   whole = row-term s surface declarations rows d 512 root [] core₀
 
   pub record Elaborating (core work : List ℕ) (st : State) : Type 0 where
     pub same : whole ≡ outcome s surface declarations rows d (works-in work (st .works)) work st core
     pub room : Room (works-in work (st .works)) (st .values) (st .locals)
     pub fits : st .works ≤ 3754
-    pub inside : Inside s surface declarations index work rows d
+    pub inside : RowsInside s surface declarations index work rows d
 
-  and-done : (o : Outcome) → o ≡ and-then o (λ c. done c)
+  and-done : (o : TermOutcome) → o ≡ and-then o (λ c. done c)
   unfolding and-then
   and-done (done c) = refl
   and-done (unknown-at a n) = refl
 
-  pub started : (work₀ work : List ℕ) → Inside s surface declarations index work₀ rows d → length work ≡ length work₀ → WorkPushed work₀ work (0 + 1) (Work.Eval root 512 ∷ works-in work₀ 0)
+  pub started : (work₀ work : List ℕ) → RowsInside s surface declarations index work₀ rows d → length work ≡ length work₀ → WorkPushed work₀ work (0 + 1) (Work.Eval root 512 ∷ works-in work₀ 0)
       → Elaborating core₀ work (record { works = 1; values = 0; locals = 0 })
   unfolding works-in values-in local-names run Room
   started work₀ work i e p = record {
@@ -39,11 +39,11 @@ module _ (s surface declarations index : List ℕ) (rows d root : ℕ) (core₀ 
   }
 
   module _ (core work : List ℕ) (st : State) (e : Elaborating core work st) where
-    module _ (r : Step) (core₁ work₁ : List ℕ) (h : Stepped s surface declarations rows d (works-in work (st .works)) work st core r core₁ work₁) where
-      pub went : (st₁ : State) → r ≡ Step.Go st₁ → Went s surface declarations rows d (works-in work (st .works)) work st core st₁ core₁ work₁
-      went st₁ q = subst (λ (x : Step). Stepped s surface declarations rows d (works-in work (st .works)) work st core x core₁ work₁) q h
+    module _ (r : WorkStep) (core₁ work₁ : List ℕ) (h : WorkStepped s surface declarations rows d (works-in work (st .works)) work st core r core₁ work₁) where
+      pub went : (st₁ : State) → r ≡ WorkStep.Go st₁ → Went s surface declarations rows d (works-in work (st .works)) work st core st₁ core₁ work₁
+      went st₁ q = subst (λ (x : WorkStep). WorkStepped s surface declarations rows d (works-in work (st .works)) work st core x core₁ work₁) q h
 
-      pub goes-on : (st₁ : State) → r ≡ Step.Go st₁ → length work₁ ≡ length work → Elaborating core₁ work₁ st₁
+      pub goes-on : (st₁ : State) → r ≡ WorkStep.Go st₁ → length work₁ ≡ length work → Elaborating core₁ work₁ st₁
       goes-on st₁ q n =
           let w = went st₁ q in
           record {
@@ -53,12 +53,12 @@ module _ (s surface declarations index : List ℕ) (rows d root : ℕ) (core₀ 
             inside = record { area = omega (arith, e .inside .area); read = e .inside .read; few = e .inside .few; indexed = e .inside .indexed };
           }
 
-      pub stops : (a n : ℕ) → r ≡ Step.Unknown a n → Answered whole (TermDone.Unknown a n) core₁
+      pub stops : (a n : ℕ) → r ≡ WorkStep.Unknown a n → Answered whole (TermDone.Unknown a n) core₁
       stops a n q =
           let u : outcome s surface declarations rows d (works-in work (st .works)) work st core ≡ unknown-at a n =
-          subst (λ (x : Step). Stepped s surface declarations rows d (works-in work (st .works)) work st core x core₁ work₁) q h in
-          subst (λ (o : Outcome). Answered o (TermDone.Unknown a n) core₁) (sym (e .same ∙ u)) refl
+          subst (λ (x : WorkStep). WorkStepped s surface declarations rows d (works-in work (st .works)) work st core x core₁ work₁) q h in
+          subst (λ (o : TermOutcome). Answered o (TermDone.Unknown a n) core₁) (sym (e .same ∙ u)) refl
 
     pub ended : st .works ≡ 0 → Answered whole TermDone.Done core
     unfolding works-in run
-    ended z = subst (λ (o : Outcome). Answered o TermDone.Done core) (sym (e .same ∙ ap (λ (t : ℕ). outcome s surface declarations rows d (works-in work t) work st core) z)) (refl, refl)
+    ended z = subst (λ (o : TermOutcome). Answered o TermDone.Done core) (sym (e .same ∙ ap (λ (t : ℕ). outcome s surface declarations rows d (works-in work t) work st core) z)) (refl, refl)

@@ -16,7 +16,7 @@ use Rattle.terms.proofs.Cells.{next-cells, length-roots}
 use Rattle.terms.proofs.Spans.{resolve-next}
 use Rattle.rows.specs.Places.{stored-at}
 use Rattle.scope.specs.Scope.{declared-names}
-use Rattle.elaborate.specs.RowTerm.{label-at, children-at, Outcome, done, unknown-at, and-then, arguments, core-at, visit, row-term}
+use Rattle.elaborate.specs.RowTerm.{label-at, children-at, TermOutcome, done, unknown-at, and-then, arguments, core-at, visit, row-term}
 use Rattle.elaborate.specs.Loadable.{Shaped, Nested}
 use Rattle.elaborate.proofs.Alike.{Alike, same-core, same-unknown, same-locals, same-words}
 use Rattle.elaborate.proofs.RowWords.{place, row-alike, row-children}
@@ -48,7 +48,7 @@ holds-rows t rows k (node l a r) rest h b =
     ((x .0, x .1 .0, omega arith, y .0), y .1)
 
 -- What a resolved list of trees comes to: its core rows, or its first unknown reference.
-abbrev pub settled : Option Label → List ℕ → Outcome
+abbrev pub settled : Option Label → List ℕ → TermOutcome
 settled none core = done core
 settled (some u) core = unknown-at (u .start) (u .length)
 
@@ -73,7 +73,7 @@ first-node t a r = go (is-unknown (t .core)) (first-unknown a)
     go false none = refl
     go false (some u) = refl
 
-settled-then : (b : Bool) (l : Label) (o p : Option Label) (x : List ℕ) (f : List ℕ → Outcome) (g : List ℕ → List ℕ) → ((c : List ℕ) → f c ≡ settled p (g c))
+settled-then : (b : Bool) (l : Label) (o p : Option Label) (x : List ℕ) (f : List ℕ → TermOutcome) (g : List ℕ → List ℕ) → ((c : List ℕ) → f c ≡ settled p (g c))
     → and-then (settled (first-of b l o none) x) f ≡ settled (first-of b l o p) (g x)
 unfolding and-then
 settled-then true l o p x f g e = refl
@@ -93,14 +93,14 @@ module _ (s surface declarations : List ℕ) (rows d : ℕ) where
   abbrev globals : List Name
   globals = declared-names s declarations 0 d
 
-  abbrev R : ℕ → ℕ → List Name → List ℕ → Outcome
+  abbrev R : ℕ → ℕ → List Name → List ℕ → TermOutcome
   R = row-term s surface declarations rows d
 
   abbrev rows-of : ℕ → (ℕ → List Name) → Forest Label → List (List ℕ)
   rows-of k locals f = map core-row (cells k (resolve s locals globals f))
 
   -- What trees come to whose first row is k.
-  abbrev forest : ℕ → (ℕ → List Name) → List ℕ → Forest Label → Outcome
+  abbrev forest : ℕ → (ℕ → List Name) → List ℕ → Forest Label → TermOutcome
   forest k locals core f = settled (first-unknown (resolve s locals globals f)) (stored-rows core k (rows-of k locals f))
 
   -- The rows of the trees themselves, in order, come to the trees.
@@ -134,7 +134,7 @@ module _ (s surface declarations : List ℕ) (rows d : ℕ) where
     abbrev c : Core
     c = core-of s locals globals l
 
-    abbrev Q : ℕ → List Name → List ℕ → Outcome
+    abbrev Q : ℕ → List Name → List ℕ → TermOutcome
     Q = inner s surface declarations rows d n
 
     abbrev table : List ℕ
@@ -172,7 +172,7 @@ module _ (s surface declarations : List ℕ) (rows d : ℕ) where
         go false q =
             visit-known s surface declarations rows d Q id locals core (lt-ltb id rows there) (ap is-unknown same ∙ q)
             ∙ (λ i. and-then (arguments Q (λ j. same-locals s l' l alike locals j i) (children i) core) (λ x. done (stored-at 8 x id (core-words l' (same i) (children i)))))
-            ∙ ap₂ (λ (o : Outcome) (w : List ℕ). and-then o (λ x. done (stored-at 8 x id w))) args (same-words s l' l alike c (roots k a))
+            ∙ ap₂ (λ (o : TermOutcome) (w : List ℕ). and-then o (λ x. done (stored-at 8 x id w))) args (same-words s l' l alike c (roots k a))
             ∙ settled-done first-in table (λ x. stored-at 8 x id (core-words l c (roots k a)))
             ∙ ap (λ (o : Option Label). settled o (stored-at 8 table id (core-words l c (roots k a)))) (first-alone l first-in)
             ∙ ap (λ (b : Bool). settled (first-of b l first-in none) (stored-at 8 table id (core-words l c (roots k a)))) (sym q)
@@ -192,7 +192,7 @@ module _ (s surface declarations : List ℕ) (rows d : ℕ) where
       let c = core-of s (locals zero) globals l in
       let A = resolve s (locals-in s l (locals zero)) globals a in
       let T = resolve s (λ i. locals (suc i)) globals r in
-      ap (λ (o : Outcome). and-then o (λ x. arguments (R n) (λ i. locals (suc i)) (roots (suc (next k a)) r) x))
+      ap (λ (o : TermOutcome). and-then o (λ x. arguments (R n) (λ i. locals (suc i)) (roots (suc (next k a)) r) x))
       (tree-row n l a k (locals zero) core (holds .1) (holds .2) (shaped .0) (args-come n l a r k (locals-in s l (locals zero)) core (comes a) (holds .0) (shaped .1) nested))
       ∙ settled-then (is-unknown c) l (first-unknown A) (first-unknown T) _ _ (λ x. stored-rows x (suc (next k a)) (rows-of (suc (next k a)) (λ i. locals (suc i)) r))
       (λ x. comes r n (suc (next k a)) (λ i. locals (suc i)) x (holds .3) (shaped .2) (rest-nested n l a r nested))

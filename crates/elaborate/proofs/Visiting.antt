@@ -10,14 +10,14 @@ use Rattle.terms.specs.Label.{Name}
 use Rattle.terms.specs.Resolution.{Core, locals-in, is-unknown}
 use Rattle.terms.specs.Rows.{core-words}
 use Rattle.rows.specs.Places.{stored-at}
-use Rattle.elaborate.specs.RowTerm.{row-word, label-at, children-at, Outcome, done, unknown-at, and-then, arguments, core-at, visit, row-term}
+use Rattle.elaborate.specs.RowTerm.{row-word, label-at, children-at, TermOutcome, done, unknown-at, and-then, arguments, core-at, visit, row-term}
 
 module _ (s surface declarations : List ℕ) (rows d : ℕ) where
   abbrev At : ℕ → List Name → Core
   At = core-at s surface declarations rows d
 
   -- The resolution of the arguments of a row in which so many forms may still be opened.
-  abbrev pub inner : ℕ → ℕ → List Name → List ℕ → Outcome
+  abbrev pub inner : ℕ → ℕ → List Name → List ℕ → TermOutcome
   inner zero id locals core = unknown-at 0 0
   inner (suc left) id locals core = row-term s surface declarations rows d left id locals core
 
@@ -26,8 +26,8 @@ module _ (s surface declarations : List ℕ) (rows d : ℕ) where
   row-visit zero id locals core = refl
   row-visit (suc left) id locals core = refl
 
-  module _ (R : ℕ → List Name → List ℕ → Outcome) (id : ℕ) (locals : List Name) (core : List ℕ) where
-    abbrev visited : Outcome
+  module _ (R : ℕ → List Name → List ℕ → TermOutcome) (id : ℕ) (locals : List Name) (core : List ℕ) where
+    abbrev visited : TermOutcome
     visited = visit s surface declarations rows d R id locals core
 
     pub visit-out : ltb id rows ≡ false → visited ≡ unknown-at 0 0

@@ -11,7 +11,7 @@ use Rattle.terms.specs.Label.{part}
 use Rattle.terms.specs.Resolution.{find, RefusedName, refused-name}
 use Rattle.scope.specs.Scope.{declared-names}
 use Rattle.stacks.specs.Stacks.{WorkArea}
-use Rattle.elaborate.specs.RowTerm.{Outcome, done, unknown-at, and-then, row-term}
+use Rattle.elaborate.specs.RowTerm.{TermOutcome, done, unknown-at, and-then, row-term}
 use Rattle.elaborate.specs.declared.Elaborated.{Elaborated}
 
 -- The tables are long enough for so many rows and declarations, and a declaration's place fits a word.
@@ -35,13 +35,13 @@ pub data ModuleOutcome : Type 0 where
   refused : RefusedName → ModuleOutcome
 
 -- "5 unknown name"
-abbrev pub module-outcome : Outcome → ModuleOutcome
+abbrev pub module-outcome : TermOutcome → ModuleOutcome
 module-outcome (done c) = resolved c
 module-outcome (unknown-at a n) = refused (refused-name 5 a n)
 
 module _ (s surface declarations : List ℕ) (rows d : ℕ) where
   -- A type, and the body if the kind has one.
-  unfoldable pub parts-outcome : ℕ → ℕ → ℕ → List ℕ → Outcome
+  unfoldable pub parts-outcome : ℕ → ℕ → ℕ → List ℕ → TermOutcome
   parts-outcome kind type body core =
       and-then (row-term s surface declarations rows d 512 type [] core)
       (λ c. cond (eqb kind 1) (done c) (row-term s surface declarations rows d 512 body [] c))
@@ -50,7 +50,7 @@ module _ (s surface declarations : List ℕ) (rows d : ℕ) where
   record-word j = getD declarations (d * 5 + j) 0
 
   -- The type and the body of the declaration at place d.
-  abbrev pub record-outcome : List ℕ → Outcome
+  abbrev pub record-outcome : List ℕ → TermOutcome
   record-outcome core = parts-outcome (getD declarations (d * 5) 0) (record-word 3) (record-word 4) core
 
   -- The declaration at place d. "4 declaration name used before": it is compared with those before it.

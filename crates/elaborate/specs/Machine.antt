@@ -14,9 +14,9 @@ use Rattle.scope.specs.Scope.{local-names, reference}
 use Rattle.scope.specs.Index.{Indexed}
 use Rattle.stacks.specs.Stacks.{works-in, values-in, WorkArea, WorkPushed, ValuePushed}
 use Rattle.stacks.specs.declared.Work.{Work}
-use Rattle.elaborate.specs.RowTerm.{row-word, six-at, Outcome, done, unknown-at, and-then, row-term}
+use Rattle.elaborate.specs.RowTerm.{row-word, six-at, TermOutcome, done, unknown-at, and-then, row-term}
 use Rattle.elaborate.specs.declared.State.{State}
-use Rattle.elaborate.specs.declared.Step.{Step}
+use Rattle.elaborate.specs.declared.WorkStep.{WorkStep}
 use Rattle.elaborate.specs.declared.TermDone.{TermDone}
 
 abbrev pub form-label : ℕ → Label
@@ -42,7 +42,7 @@ scheduled k a n left i (id ∷ ids) works = scheduled-one (covers k i) a n left 
 
 -- What work items come to, with the local names, the values and the core table.
 module _ (s surface declarations : List ℕ) (rows d : ℕ) where
-  unfoldable pub run : List Work → List Name → List ℕ → List ℕ → Outcome
+  unfoldable pub run : List Work → List Name → List ℕ → List ℕ → TermOutcome
   run [] locals values core = done core
   run (Work.Eval id left ∷ works) locals values core =
       and-then (row-term s surface declarations rows d left id locals core) (λ c. run works locals (values ++ (id ∷ [])) c)
@@ -74,7 +74,7 @@ weight (Work.PopLocal ∷ works) = 1 + weight works
 weight (Work.Build k id ∷ works) = 1 + weight works
 
 -- The tables are long enough, a declaration's place fits a word, and the index holds the earlier declarations.
-pub record Inside (s surface declarations index work : List ℕ) (rows d : ℕ) : Type 0 where
+pub record RowsInside (s surface declarations index work : List ℕ) (rows d : ℕ) : Type 0 where
   pub area : WorkArea work
   pub read : rows * 8 ≤ length surface
   pub few : d ≤ 4294967295
@@ -93,9 +93,9 @@ pub record RowDone (id : ℕ) (words : List ℕ) (st : State) (core work : List 
   pub state : st₁ ≡ record { works = st .works; values = st .values + 1; locals = st .locals }
 
 -- A reference to c, by the start and length of its name: its row is stored, or it is unknown.
-abbrev pub ReferenceDone : Core → ℕ → ℕ → ℕ → State → List ℕ → List ℕ → Step → List ℕ → List ℕ → Type 0
-ReferenceDone c a n id st core work (Step.Go st₁) core₁ work₁ = (is-unknown c ≡ false) × RowDone id (core-words (reference a n) c []) st core work st₁ core₁ work₁
-ReferenceDone c a n id st core work (Step.Unknown x y) core₁ work₁ = (is-unknown c ≡ true) × (x ≡ a) × (y ≡ n)
+abbrev pub ReferenceDone : Core → ℕ → ℕ → ℕ → State → List ℕ → List ℕ → WorkStep → List ℕ → List ℕ → Type 0
+ReferenceDone c a n id st core work (WorkStep.Go st₁) core₁ work₁ = (is-unknown c ≡ false) × RowDone id (core-words (reference a n) c []) st core work st₁ core₁ work₁
+ReferenceDone c a n id st core work (WorkStep.Unknown x y) core₁ work₁ = (is-unknown c ≡ true) × (x ≡ a) × (y ≡ n)
 
 -- The state without the values of a form's arguments.
 abbrev pub without-arguments : ℕ → State → State
@@ -107,7 +107,7 @@ form-row k st work = core-words (form-label k) kept (drop (st .values - arity-of
 
 module _ (s surface declarations : List ℕ) (rows d : ℕ) where
   -- What a state comes to whose work items are `works`.
-  abbrev pub outcome : List Work → List ℕ → State → List ℕ → Outcome
+  abbrev pub outcome : List Work → List ℕ → State → List ℕ → TermOutcome
   outcome works work st core = run s surface declarations rows d works (local-names s work (st .locals)) (values-in work (st .values)) core
 
   -- A step to another state: it comes to the same, there is less to do, and room for it.
@@ -117,11 +117,11 @@ module _ (s surface declarations : List ℕ) (rows d : ℕ) where
     pub room : Room (works-in work₁ (st₁ .works)) (st₁ .values) (st₁ .locals)
     pub fits : st₁ .works ≤ 3754
 
-  abbrev pub Stepped : List Work → List ℕ → State → List ℕ → Step → List ℕ → List ℕ → Type 0
-  Stepped works work st core (Step.Go st₁) core₁ work₁ = Went works work st core st₁ core₁ work₁
-  Stepped works work st core (Step.Unknown a n) core₁ work₁ = outcome works work st core ≡ unknown-at a n
+  abbrev pub WorkStepped : List Work → List ℕ → State → List ℕ → WorkStep → List ℕ → List ℕ → Type 0
+  WorkStepped works work st core (WorkStep.Go st₁) core₁ work₁ = Went works work st core st₁ core₁ work₁
+  WorkStepped works work st core (WorkStep.Unknown a n) core₁ work₁ = outcome works work st core ≡ unknown-at a n
 
 -- The answer, and the core table.
-abbrev pub Answered : Outcome → TermDone → List ℕ → Type 0
+abbrev pub Answered : TermOutcome → TermDone → List ℕ → Type 0
 Answered (done c) r core = (r ≡ TermDone.Done) × (core ≡ c)
 Answered (unknown-at a n) r core = r ≡ TermDone.Unknown a n

@@ -29,16 +29,16 @@ abbrev pub children-at : List ℕ → ℕ → List ℕ
 children-at t id = take (arity-of (label-at t id .kind)) (six-at t id (holds-span (label-at t id .kind)))
 
 -- What resolving a term comes to: the core table, or the span of the first unknown reference.
-pub data Outcome : Type 0 where
-  done : (core : List ℕ) → Outcome
-  unknown-at : (start length : ℕ) → Outcome
+pub data TermOutcome : Type 0 where
+  done : (core : List ℕ) → TermOutcome
+  unknown-at : (start length : ℕ) → TermOutcome
 
-unfoldable pub and-then : Outcome → (List ℕ → Outcome) → Outcome
+unfoldable pub and-then : TermOutcome → (List ℕ → TermOutcome) → TermOutcome
 and-then (done c) f = f c
 and-then (unknown-at a n) f = unknown-at a n
 
 -- The arguments in order, with R for one of them; `locals i` are the local names in argument i.
-unfoldable pub arguments : (ℕ → List Name → List ℕ → Outcome) → (ℕ → List Name) → List ℕ → List ℕ → Outcome
+unfoldable pub arguments : (ℕ → List Name → List ℕ → TermOutcome) → (ℕ → List Name) → List ℕ → List ℕ → TermOutcome
 arguments R locals [] core = done core
 arguments R locals (id ∷ ids) core = and-then (R id (locals zero) core) (λ c. arguments R (λ i. locals (suc i)) ids c)
 
@@ -48,7 +48,7 @@ module _ (s surface declarations : List ℕ) (rows d : ℕ) where
   core-at id locals = core-of s locals (declared-names s declarations 0 d) (label-at surface id)
 
   -- A row, with R for its arguments. A row that is not there counts as an unknown reference without a name.
-  unfoldable pub visit : (ℕ → List Name → List ℕ → Outcome) → ℕ → List Name → List ℕ → Outcome
+  unfoldable pub visit : (ℕ → List Name → List ℕ → TermOutcome) → ℕ → List Name → List ℕ → TermOutcome
   visit R id locals core =
       elim (ltb id rows) [
         | false ↦ unknown-at 0 0
@@ -61,6 +61,6 @@ module _ (s surface declarations : List ℕ) (rows d : ℕ) where
       ]
 
   -- A row in which so many forms may still be opened: a form that is one too many counts as an unknown reference without a name.
-  unfoldable pub row-term : ℕ → ℕ → List Name → List ℕ → Outcome
+  unfoldable pub row-term : ℕ → ℕ → List Name → List ℕ → TermOutcome
   row-term zero id locals core = visit (λ j l c. unknown-at 0 0) id locals core
   row-term (suc left) id locals core = visit (row-term left) id locals core

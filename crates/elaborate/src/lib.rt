@@ -11,7 +11,7 @@ ghost use Rattle.scope.specs.Scope.{local-names, declared-names, reference};
 ghost use Rattle.scope.specs.Index.{Indexed};
 ghost use Rattle.stacks.specs.Stacks.{names-room, values-room, works-room, works-in, WorkArea, WorkPushed, LocalPushed};
 ghost use Rattle.elaborate.specs.RowTerm.{six-at, row-term};
-ghost use Rattle.elaborate.specs.Machine.{Six, scheduled-one, scheduled, FormScheduled, Room, Inside, RowDone, ReferenceDone, without-arguments, form-row, Stepped, Answered};
+ghost use Rattle.elaborate.specs.Machine.{Six, scheduled-one, scheduled, FormScheduled, Room, RowsInside, RowDone, ReferenceDone, without-arguments, form-row, WorkStepped, Answered};
 ghost use Rattle.elaborate.specs.Loadable.{Loadable, Elaborates};
 ghost use Rattle.elaborate.specs.Declarations.{Fitting, Whether, Blank, record-outcome, declaration-outcome, Declared};
 use scope::Referent;
@@ -41,16 +41,16 @@ struct State {
     locals: usize,
 }
 
-enum Step {
+enum WorkStep {
     Go(State),
     Unknown { start: u32, length: u32 },
 }
 
 // A row that is not there and a form too many, which no table that was read has, count as an unknown reference without a name.
-fn nameless() -> Step
-    ensures { λ r. ⌜ r ≡ Step.Unknown 0 0 ⌝ }
+fn nameless() -> WorkStep
+    ensures { λ r. ⌜ r ≡ WorkStep.Unknown 0 0 ⌝ }
 {
-    Step::Unknown {
+    WorkStep::Unknown {
         start: 0,
         length: 0,
     }
@@ -219,22 +219,26 @@ fn eval_reference(
     d: usize,
     start: u32,
     length: u32,
-) -> Step
+) -> WorkStep
     requires { ⌜ (st .locals ≤ names-room) × (st .values < values-room) × (d ≤ 4294967295) × WorkArea (now work) × Indexed (now s) (now declarations) d (now index) ⌝ }
-    ensures { λ r. ⌜ ReferenceDone (core-of (now (s .entry)) (local-names (now (s .entry)) (now (work .entry)) (st .locals)) (declared-names (now (s .entry)) (now (declarations .entry)) 0 d) (reference start length)) start length id st (now (core .entry)) (now (work .entry)) r (now (core .exit)) (now (work .exit)) ⌝ }
+    ensures { λ r. ⌜
+        ReferenceDone (core-of (now (s .entry)) (local-names (now (s .entry)) (now (work .entry)) (st .locals))
+        (declared-names (now (s .entry)) (now (declarations .entry)) 0 d) (reference start length)) start length id st (now
+        (core .entry)) (now (work .entry)) r (now (core .exit)) (now (work .exit))
+        ⌝ }
 {
     let l = st.locals;
     let r = scope::find_name(s, work, declarations, index, l, d, start, length);
     match r {
         Referent::Var(count) => {
             let row = rows::reference_row(1, count);
-            Step::Go(finish(core, work, st, id, row))
+            WorkStep::Go(finish(core, work, st, id, row))
         }
         Referent::Global(place) => {
             let row = rows::reference_row(2, place);
-            Step::Go(finish(core, work, st, id, row))
+            WorkStep::Go(finish(core, work, st, id, row))
         }
-        Referent::Unknown => Step::Unknown { start, length },
+        Referent::Unknown => WorkStep::Unknown { start, length },
     }
 }
 
@@ -287,10 +291,10 @@ fn eval(
     left: u32,
     rows: usize,
     d: usize,
-) -> Step
-    requires { ⌜ Inside (now s) (now surface) (now declarations) (now index) (now work) rows d ⌝ }
+) -> WorkStep
+    requires { ⌜ RowsInside (now s) (now surface) (now declarations) (now index) (now work) rows d ⌝ }
     requires { ⌜ Room (Work.Eval id left ∷ works-in (now work) (st .works)) (st .values) (st .locals) ⌝ }
-    ensures { λ r. ⌜ Stepped (now (s .entry)) (now (surface .entry)) (now (declarations .entry)) rows d (Work.Eval id left ∷ works-in (now (work .entry)) (st .works)) (now (work .entry)) st (now (core .entry)) r (now (core .exit)) (now (work .exit)) ⌝ }
+    ensures { λ r. ⌜ WorkStepped (now (s .entry)) (now (surface .entry)) (now (declarations .entry)) rows d (Work.Eval id left ∷ works-in (now (work .entry)) (st .works)) (now (work .entry)) st (now (core .entry)) r (now (core .exit)) (now (work .exit)) ⌝ }
 {
     let k = id as usize;
     if rows <= k {
@@ -304,12 +308,12 @@ fn eval(
     }
     if rows::arity(kind) == 0 {
         let row = rows::core_row(kind, start, length, [0, 0, 0, 0, 0, 0], 0);
-        return Step::Go(finish(core, work, st, id, row));
+        return WorkStep::Go(finish(core, work, st, id, row));
     }
     if left == 0 {
         return nameless();
     }
-    Step::Go(schedule_form(surface, work, st, kind, id, left - 1))
+    WorkStep::Go(schedule_form(surface, work, st, kind, id, left - 1))
 }
 
 // A name comes into scope.
@@ -363,11 +367,11 @@ fn work_step(
     st: State,
     rows: usize,
     d: usize,
-) -> Step
-    requires { ⌜ Inside (now s) (now surface) (now declarations) (now index) (now work) rows d ⌝ }
+) -> WorkStep
+    requires { ⌜ RowsInside (now s) (now surface) (now declarations) (now index) (now work) rows d ⌝ }
     requires { ⌜ Room (works-in (now work) (st .works)) (st .values) (st .locals) ⌝ }
     requires { ⌜ (0 < st .works) × (st .works ≤ works-room) ⌝ }
-    ensures { λ r. ⌜ Stepped (now (s .entry)) (now (surface .entry)) (now (declarations .entry)) rows d (works-in (now (work .entry)) (st .works)) (now (work .entry)) st (now (core .entry)) r (now (core .exit)) (now (work .exit)) ⌝ }
+    ensures { λ r. ⌜ WorkStepped (now (s .entry)) (now (surface .entry)) (now (declarations .entry)) rows d (works-in (now (work .entry)) (st .works)) (now (work .entry)) st (now (core .entry)) r (now (core .exit)) (now (work .exit)) ⌝ }
 {
     let below = popped(st);
     let t = below.works;
@@ -386,9 +390,9 @@ fn work_step(
             rows,
             d,
         ),
-        Work::PushLocal { start, length } => Step::Go(enter_binder(work, below, start, length)),
-        Work::PopLocal => Step::Go(leave_binder(below)),
-        Work::Build { kind, row } => Step::Go(build_term(core, work, below, kind, row)),
+        Work::PushLocal { start, length } => WorkStep::Go(enter_binder(work, below, start, length)),
+        Work::PopLocal => WorkStep::Go(leave_binder(below)),
+        Work::Build { kind, row } => WorkStep::Go(build_term(core, work, below, kind, row)),
     }
 }
 
@@ -421,7 +425,7 @@ fn elaborate_term(
     rows: usize,
     d: usize,
 ) -> TermDone
-    requires { ⌜ Inside (now s) (now surface) (now declarations) (now index) (now work) rows d ⌝ }
+    requires { ⌜ RowsInside (now s) (now surface) (now declarations) (now index) (now work) rows d ⌝ }
     ensures { λ r. ⌜ Answered (row-term (now (s .entry)) (now (surface .entry)) (now (declarations .entry)) rows d 512 root [] (now (core .entry))) r (now (core .exit)) ⌝ }
 {
     let mut st = begin_term(work, root);
@@ -432,10 +436,10 @@ fn elaborate_term(
         }
         let r = work_step(s, surface, declarations, core, work, index, st, rows, d);
         match r {
-            Step::Go(next) => {
+            WorkStep::Go(next) => {
                 st = next;
             }
-            Step::Unknown { start, length } => {
+            WorkStep::Unknown { start, length } => {
                 return TermDone::Unknown { start, length };
             }
         }
@@ -453,7 +457,7 @@ fn elaborate_parts(
     rows: usize,
     d: usize,
 ) -> TermDone
-    requires { ⌜ Inside (now s) (now surface) (now declarations) (now index) (now work) rows d ⌝ }
+    requires { ⌜ RowsInside (now s) (now surface) (now declarations) (now index) (now work) rows d ⌝ }
     requires { ⌜ d * 5 + 5 ≤ length (now declarations) ⌝ }
     ensures { λ r. ⌜ Answered (record-outcome (now (s .entry)) (now (surface .entry)) (now (declarations .entry)) rows d (now (core .entry))) r (now (core .exit)) ⌝ }
 {
@@ -483,7 +487,7 @@ fn declaration_step(
     rows: usize,
     d: usize,
 ) -> Elaborated
-    requires { ⌜ Inside (now s) (now surface) (now declarations) (now index) (now work) rows d ⌝ }
+    requires { ⌜ RowsInside (now s) (now surface) (now declarations) (now index) (now work) rows d ⌝ }
     requires { ⌜ d * 5 + 5 ≤ length (now declarations) ⌝ }
     ensures { λ r. ⌜ Declared (declaration-outcome (now (s .entry)) (now (surface .entry)) (now (declarations .entry)) rows d (now (core .entry))) r (now (core .exit)) ⌝ }
     ensures { λ r. ⌜ (r ≡ Elaborated.Done → Indexed (now (s .entry)) (now (declarations .entry)) (d + 1) (now (index .exit))) ⌝ }

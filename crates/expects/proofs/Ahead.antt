@@ -17,7 +17,7 @@ use Rattle.surface.specs.Reader.{Position, done, Reader, _>>=_, _>>_, pure, req
 use Rattle.surface.specs.Reading.{lexed, token, opening, closing, atom, word, natural, name}
 use Rattle.surface.specs.Text.{text, is-open, is-close, is-atom}
 use Rattle.expects.specs.Expects.{position-at, Reads}
-use Rattle.expects.specs.Tokens.{Inside, LexedInside}
+use Rattle.expects.specs.Tokens.{TokenInside, LexedInside}
 use Rattle.expects.proofs.Gives.{Gives, given, gives-after, gives-require}
 
 -- A position behind p, within the source.
@@ -117,7 +117,7 @@ module _ (s : List ℕ) (p : Position) (t : Token) (q : Position) where
   pub name-got : (E : Edition) → name E s p ≡ done t q → TokenAhead s p t q
   name-got E e = given (TokenAhead s p) (name-ahead s p E) e
 
-  inside : TokenAhead s p t q → Inside (length s) t
+  inside : TokenAhead s p t q → TokenInside (length s) t
   inside a = record { order = omega arith; high = a .high }
 
 -- The token that stands next, unless it is the end token.
@@ -126,7 +126,7 @@ module _ (s : List ℕ) (at : ℕ) (t : Token) (e : next-token s at ≡ Got t) (
   unfolding token
   next-ahead n = token-got s (position-at at n) t (position-at (t .end) n) (ap (lexed s n) e) not-eof
 
-  pub next-inside : Inside (length s) t
+  pub next-inside : TokenInside (length s) t
   next-inside = inside s (position-at at 0) t (position-at (t .end) 0) (next-ahead 0)
 
 -- What a function gives for a reader R that gives tokens ahead.
@@ -141,11 +141,11 @@ module _ (s : List ℕ) (R : Reader Token) (g : (p : Position) → Gives (TokenA
       by (Got t) e = inside s (position-at at 0) t _ (read-ahead t e 0)
       by (Refused r) e = tt
 
-pub inside-got : (hi : ℕ) (x : Lexed) (t : Token) → LexedInside hi x → x ≡ Got t → Inside hi t
+pub inside-got : (hi : ℕ) (x : Lexed) (t : Token) → LexedInside hi x → x ≡ Got t → TokenInside hi t
 inside-got hi x t i e = subst (LexedInside hi) e i
 
 module _ (s : List ℕ) (at : ℕ) (x : Lexed) where
-  pub atom-inside : Reads s (atom s) at x → (t : Token) → x ≡ Got t → Inside (length s) t
+  pub atom-inside : Reads s (atom s) at x → (t : Token) → x ≡ Got t → TokenInside (length s) t
   atom-inside h t e = inside-got (length s) x t (read-inside s (atom s) (atom-ahead s) at x h) e
 
   pub natural-inside : Reads s (natural s) at x → LexedInside (length s) x

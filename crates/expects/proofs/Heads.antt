@@ -14,13 +14,13 @@ use Rattle.surface.specs.Text.{text}
 use Rattle.expects.specs.declared.HeadRead.{HeadRead}
 use Rattle.expects.specs.declared.Format.{Format}
 use Rattle.expects.specs.Expects.{position-at, head-read, Heads}
-use Rattle.expects.specs.Tokens.{Inside}
+use Rattle.expects.specs.Tokens.{TokenInside}
 use Rattle.expects.proofs.Gives.{Gives, given, gives-after}
 use Rattle.expects.proofs.Ahead.{Ahead, TokenAhead, opening-ahead, closing-ahead, word-ahead, natural-ahead, name-ahead}
 
 pub record HeadAhead (s : List ℕ) (p : Position) (t : Token) (q : Position) : Type 0 where
   pub ahead : Ahead s p q
-  pub name : Inside (length s) t
+  pub name : TokenInside (length s) t
 
 module _ (s : List ℕ) (p : Position) where
   supported-ahead : (o : Option Edition) (q : Position) → Ahead s p q → Gives (λ E r. Ahead s p r) (supported o q)

@@ -20,7 +20,7 @@ use Rattle.expects.specs.declared.Begun.{Begun}
 use Rattle.expects.specs.declared.FormOfWord.{FormOfWord}
 use Rattle.expects.specs.Expects.{position-at, Reads, Begins}
 use Rattle.expects.specs.FormOfWord.{form-numbers, shape-number}
-use Rattle.expects.specs.Tokens.{Inside}
+use Rattle.expects.specs.Tokens.{TokenInside}
 use Rattle.expects.specs.Terms.{LabelWith, LabelAlone, BeginsOn, BeginsWith, ClosesLeaf}
 use Rattle.expects.proofs.Shapes.{form-is}
 use Rattle.expects.proofs.Arities.{Fits}
@@ -35,7 +35,7 @@ module _ (s : List ℕ) (kind offset : ℕ) (x : Lexed) where
     pub leaf-unclosed : (r : Refusal) → y ≡ Refused r → ClosesLeaf s kind offset x (Begun.Refused r)
     leaf-unclosed r i = λ small within n. rw (e, h n, i)
 
-    pub leaf-got : (c : Token) → y ≡ Got c → Inside (length s) t → (l : Label) → LabelWith kind t offset l → ClosesLeaf s kind offset x (Begun.Leaf l (c .end))
+    pub leaf-got : (c : Token) → y ≡ Got c → TokenInside (length s) t → (l : Label) → LabelWith kind t offset l → ClosesLeaf s kind offset x (Begun.Leaf l (c .end))
     leaf-got c i a l f = λ small within n. rw (e, h n, i, f (omega arith) (omega arith))
 
 bare-other : (E : Edition) (s : List ℕ) (t : Token) (f : Form) (sh : Shape) (p : Position) → (shape-number sh ≡ 1 → ⊥) → bare E s t f sh p ≡ refused (at-token 1 t)

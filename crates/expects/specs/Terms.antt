@@ -13,7 +13,7 @@ use Rattle.surface.specs.Text.{text}
 use Rattle.surface.specs.Reading.{leaf, lexed, closing, known, tagged, beginning-on}
 use Rattle.expects.specs.declared.Begun.{Begun}
 use Rattle.expects.specs.Expects.{position-at, begun}
-use Rattle.expects.specs.Tokens.{Inside}
+use Rattle.expects.specs.Tokens.{TokenInside}
 
 -- The label of a term of a kind, with its name, numeral or binder x.
 abbrev pub label-of : ℕ → Token → ℕ → Label
@@ -30,12 +30,12 @@ LabelAlone kind offset l = offset < 4294967296 → l ≡ record { kind = kind; s
 module _ (E : Edition) (s : List ℕ) where
   -- What a term begins with, of which the first token is t, of a kind.
   abbrev pub BeginsOn : Token → TokenKind → Begun → Type 0
-  BeginsOn t k r = length s ≤ 4294967295 → Inside (length s) t → (n : ℕ) → beginning-on E s t k (position-at (t .end) n) ≡ begun n r
+  BeginsOn t k r = length s ≤ 4294967295 → TokenInside (length s) t → (n : ℕ) → beginning-on E s t k (position-at (t .end) n) ≡ begun n r
 
   -- The same, of which the first tokens are the parenthesis o and the word w.
   abbrev pub BeginsWith : Token → Token → Begun → Type 0
   BeginsWith o w r =
-      length s ≤ 4294967295 → Inside (length s) o → (n : ℕ)
+      length s ≤ 4294967295 → TokenInside (length s) o → (n : ℕ)
       → known E s (λ f. tagged E s o w f (f .shape)) w (form-of-word (text s w) (E .forms)) (position-at (w .end) n) ≡ begun n r
 
 -- The rest of a term with the name or numeral x: its closing parenthesis.

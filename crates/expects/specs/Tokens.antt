@@ -30,11 +30,11 @@ abbrev pub OfKind : Lexed → TokenKind → Lexed → Type 0
 OfKind l wanted r = (s : List ℕ) (at : ℕ) → l ≡ next-token s at → Reads s (of-kind s wanted) at r
 
 -- A token that stands in a source of so many bytes.
-pub record Inside (hi : ℕ) (t : Token) : Type 0 where
+pub record TokenInside (hi : ℕ) (t : Token) : Type 0 where
   pub order : t .start ≤ t .end
   pub high : t .end ≤ hi
 
 -- The same, if it is a token at all.
 abbrev pub LexedInside : ℕ → Lexed → Type 0
-LexedInside hi (Got t) = Inside hi t
+LexedInside hi (Got t) = TokenInside hi t
 LexedInside hi (Refused r) = Unit

@@ -10,7 +10,7 @@ ghost use Rattle.surface.specs.Reading.{opening, closing, atom, word, natural, 
 ghost use Rattle.expects.specs.Expects.{Reads, Begins, Heads};
 ghost use Rattle.expects.specs.Formats.{edition, tested-name};
 ghost use Rattle.expects.specs.FormOfWord.{form-numbers, form-at};
-ghost use Rattle.expects.specs.Tokens.{kind-number, Inside, LexedInside, OfKind};
+ghost use Rattle.expects.specs.Tokens.{kind-number, TokenInside, LexedInside, OfKind};
 ghost use Rattle.expects.specs.Terms.{LabelWith, LabelAlone, BeginsOn, BeginsWith, ClosesLeaf};
 ghost use Rattle.expects.specs.Lines.{tag, version-0-1, ClosesVersion, SurfaceLine, ModuleLine};
 use terms::Label;
@@ -325,7 +325,7 @@ fn label_alone(kind: u32, offset: usize) -> Label
 
 // The term of a word t that stands without a parenthesis.
 fn begin_bare(s: &[u8], t: Token, format: Format) -> Begun
-    requires { ⌜ Inside (length (now s)) t ⌝ }
+    requires { ⌜ TokenInside (length (now s)) t ⌝ }
     ensures { λ r. ⌜ BeginsOn (edition format) (now (s .entry)) t TokenKind.Atom r ⌝ }
 {
     let a = t.start;
@@ -356,7 +356,7 @@ fn close_leaf(s: &[u8], kind: u32, offset: usize, x: Lexed) -> Begun
 
 // The beginning of a term behind its parenthesis and its word t.
 fn begin_tagged(s: &[u8], lparen: Token, t: Token, format: Format) -> Begun
-    requires { ⌜ Inside (length (now s)) t ⌝ }
+    requires { ⌜ TokenInside (length (now s)) t ⌝ }
     ensures { λ r. ⌜ BeginsWith (edition format) (now (s .entry)) lparen t r ⌝ }
 {
     let a = t.start;
@@ -425,8 +425,8 @@ fn expect_tag(s: &[u8], at: usize, expected: &[u8]) -> Lexed
 
 // Whether a version is 0 1, by its bytes.
 fn is_supported(s: &[u8], major: Token, minor: Token) -> bool
-    requires { ⌜ Inside (length (now s)) major ⌝ }
-    requires { ⌜ Inside (length (now s)) minor ⌝ }
+    requires { ⌜ TokenInside (length (now s)) major ⌝ }
+    requires { ⌜ TokenInside (length (now s)) minor ⌝ }
     ensures { λ r. ⌜ r ≡ version-0-1 (now (s .entry)) major minor ⌝ }
 {
     let a = major.start;
@@ -441,8 +441,8 @@ fn is_supported(s: &[u8], major: Token, minor: Token) -> bool
 
 // The rest of the surface line behind its numerals: the closing parenthesis, and only then the version.
 fn close_version(s: &[u8], major: Token, minor: Token) -> Lexed
-    requires { ⌜ Inside (length (now s)) major ⌝ }
-    requires { ⌜ Inside (length (now s)) minor ⌝ }
+    requires { ⌜ TokenInside (length (now s)) major ⌝ }
+    requires { ⌜ TokenInside (length (now s)) minor ⌝ }
     ensures { λ r. ⌜ ClosesVersion (now (s .entry)) major minor r ⌝ }
 {
     let l = expect_rparen(s, minor.end);

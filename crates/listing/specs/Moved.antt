@@ -1,14 +1,14 @@
 -- What calls of read and write moved.
 use Prim.Native.Nat.{ℕ, _≤_}
-use Rattle.listing.specs.declared.standard.Step.{Step}
+use Rattle.listing.specs.declared.standard.Transfer.{Transfer}
 use Rattle.listing.specs.declared.standard.Input.{Input}
 
 -- A step ends within the bytes that there are.
-abbrev pub Within : ℕ → Step → Type 0
-Within end (Step.To n) = n ≤ end
-Within end Step.Nothing = Unit {0}
-Within end Step.Interrupted = Unit {0}
-Within end Step.Failed = Unit {0}
+abbrev pub Within : ℕ → Transfer → Type 0
+Within end (Transfer.To n) = n ≤ end
+Within end Transfer.Nothing = Unit {0}
+Within end Transfer.Interrupted = Unit {0}
+Within end Transfer.Failed = Unit {0}
 
 -- What was read lies within the buffer.
 abbrev pub Read : ℕ → Input → Type 0

@@ -7,7 +7,7 @@ use libc::STDIN_FILENO;
 use libc::STDOUT_FILENO;
 
 // What a call did: it moved bytes up to an offset, it moved nothing, a signal came first, or it failed, and errno says why.
-enum Step {
+enum Transfer {
     To(usize),
     Nothing,
     Interrupted,
@@ -21,28 +21,28 @@ pub enum Input {
 }
 
 // What a call did that was handed the bytes from an offset up to an end, and moved so many or failed.
-fn done_by(from: usize, end: usize, moved: usize, is_failed: bool) -> Step
+fn done_by(from: usize, end: usize, moved: usize, is_failed: bool) -> Transfer
     ensures { λ r. ⌜ Within end r ⌝ }
 {
     if is_failed {
         if os::errno() == libc::EINTR {
-            return Step::Interrupted;
+            return Transfer::Interrupted;
         }
-        return Step::Failed;
+        return Transfer::Failed;
     }
     if moved == 0 {
-        return Step::Nothing;
+        return Transfer::Nothing;
     }
     if end < moved {
-        return Step::Failed;
+        return Transfer::Failed;
     }
     if end - moved < from {
-        return Step::Failed;
+        return Transfer::Failed;
     }
-    Step::To(from + moved)
+    Transfer::To(from + moved)
 }
 
-fn read_from(buf: &mut [u8], from: usize) -> Step
+fn read_from(buf: &mut [u8], from: usize) -> Transfer
     requires { ⌜ from ≤ length (now buf) ⌝ }
     ensures { λ r. ⌜ Within (length (now (buf .exit))) r ⌝ }
 {
@@ -51,7 +51,7 @@ fn read_from(buf: &mut [u8], from: usize) -> Step
     done_by(from, buf.len(), moved, answer < 0)
 }
 
-fn write_from(text: &[u8], from: usize) -> Step
+fn write_from(text: &[u8], from: usize) -> Transfer
     requires { ⌜ from ≤ length (now text) ⌝ }
     ensures { λ r. ⌜ Within (length (now (text .entry))) r ⌝ }
 {
@@ -69,17 +69,17 @@ pub fn read_input(buf: &mut [u8]) -> Input
     while turns > 0 && done < buf.len() {
         let read = read_from(buf, done);
         match read {
-            Step::To(end) => {
+            Transfer::To(end) => {
                 done = end;
                 turns -= 1;
             }
-            Step::Nothing => {
+            Transfer::Nothing => {
                 return Input::Bytes(done);
             }
-            Step::Interrupted => {
+            Transfer::Interrupted => {
                 turns -= 1;
             }
-            Step::Failed => {
+            Transfer::Failed => {
                 return Input::Failed;
             }
         }
@@ -97,11 +97,11 @@ pub fn write_output(text: &[u8]) -> bool {
     while turns > 0 && done < text.len() {
         let written = write_from(text, done);
         match written {
-            Step::To(end) => {
+            Transfer::To(end) => {
                 done = end;
                 turns -= 1;
             }
-            Step::Interrupted => {
+            Transfer::Interrupted => {
                 turns -= 1;
             }
             _ => {

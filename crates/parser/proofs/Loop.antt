@@ -11,7 +11,7 @@ use Rattle.token.specs.declared.Refusal.{Refusal}
 use Rattle.frames.specs.Frames.{open-frames}
 use Rattle.expects.specs.Expects.{position-at}
 use Rattle.parser.specs.TermRows.{RowResult, done, refused, term-rows, resume}
-use Rattle.parser.specs.Machine.{Setting, pending, outcome, ended, Inside, Went, Reads, first-state, ready, whole-term}
+use Rattle.parser.specs.Machine.{Setting, pending, outcome, ended, TermInside, Went, Reads, first-state, ready, whole-term}
 use Rattle.parser.specs.declared.State.{State}
 use Rattle.parser.specs.declared.TermRead.{TermRead}
 
@@ -21,7 +21,7 @@ frame-open st h e = let d : eqb (st .depth) 0 ≡ false = rw h at e in omega (ar
 
 -- The test for the bounds.
 module _ (s work : List ℕ) (at n : ℕ) where
-  pub ready-inside : ready (length s) (length work) at n ≡ true → Inside 512 s work (first-state at n)
+  pub ready-inside : ready (length s) (length work) at n ≡ true → TermInside 512 s work (first-state at n)
   unfolding open-frames
   ready-inside e =
       let a = and-eq-true-iff (leb (length s) 4294967295) (leb 5632 (length work) && (leb at (length s) && leb n at)) .0 e in
@@ -36,18 +36,18 @@ module _ (s work : List ℕ) (at n : ℕ) where
         waiting = tt;
       }
 
-  pub inside-ready : Inside 512 s work (first-state at n) → ready (length s) (length work) at n ≡ true
+  pub inside-ready : TermInside 512 s work (first-state at n) → ready (length s) (length work) at n ≡ true
   inside-ready i = rw (le-leb (length s) 4294967295 (i .source), le-leb 5632 (length work) (i .area), le-leb at (length s) (i .at), le-leb n at (i .rows))
 
 -- Reading a term from an offset on, behind n rows: the tables at the beginning, and now.
 module _ (s : List ℕ) (m : Setting) (table₀ work₀ : List ℕ) (at n : ℕ) where
   pub record Reading (table work : List ℕ) (st : State) : Type 0 where
-    pub inside : Inside (m .frames) s work st
+    pub inside : TermInside (m .frames) s work st
     pub same : whole-term m table₀ at n ≡ outcome m table work st
     pub table-length : length table ≡ length table₀
     pub work-length : length work ≡ length work₀
 
-  pub start : Inside (m .frames) s work₀ (first-state at n) → Reading table₀ work₀ (first-state at n)
+  pub start : TermInside (m .frames) s work₀ (first-state at n) → Reading table₀ work₀ (first-state at n)
   unfolding outcome pending resume open-frames
   start i =
       let z : m .frames ≡ m .frames - 0 = omega arith in

@@ -19,18 +19,18 @@ use Rattle.surface.specs.Reading.{Beginning, leaf, frame}
 use Rattle.frames.specs.Frames.{OpenFrame, frame-at, open-frames}
 use Rattle.expects.specs.Expects.{position-at}
 use Rattle.parser.specs.TermRows.{RowResult, done, refused, store-row, close-row, term-rows, after-term, resume}
-use Rattle.parser.specs.Machine.{Setting, pending, outcome, weight, one-if, Waiting, Inside, Went, Stepped, pushed-term, pushed-row}
+use Rattle.parser.specs.Machine.{Setting, pending, outcome, weight, one-if, Waiting, TermInside, Went, TermStepped, pushed-term, pushed-row}
 use Rattle.parser.specs.declared.State.{State}
-use Rattle.parser.specs.declared.Step.{Step}
+use Rattle.parser.specs.declared.TermStep.{TermStep}
 use Rattle.parser.proofs.Resume.{Arities, resume-refused, store-yes, store-no, term-refused, term-leaf, term-deep, term-frame, after-more, after-last}
 
 module _ (limit : ℕ) (table : List ℕ) (n at d : ℕ) (row : List ℕ) where
   pub pushed-yes : n < limit
-      → (Step.Go (record { at = at; rows = n + 1; depth = d; value = n; have = true }) ≡ pushed-term limit n at d) × (stored-at 8 table n row ≡ pushed-row limit table n row)
+      → (TermStep.Go (record { at = at; rows = n + 1; depth = d; value = n; have = true }) ≡ pushed-term limit n at d) × (stored-at 8 table n row ≡ pushed-row limit table n row)
   unfolding pushed-term pushed-row
   pushed-yes h = let e = lt-ltb n limit h in (rw (e, pushed-term), rw (e, pushed-row))
 
-  pub pushed-no : limit ≤ n → (Step.Refused (nowhere 8) ≡ pushed-term limit n at d) × (table ≡ pushed-row limit table n row)
+  pub pushed-no : limit ≤ n → (TermStep.Refused (nowhere 8) ≡ pushed-term limit n at d) × (table ≡ pushed-row limit table n row)
   unfolding pushed-term pushed-row
   pushed-no h = let e = le-ltb n limit h in (rw (e, pushed-term), rw (e, pushed-row))
 
@@ -85,7 +85,7 @@ module _ (s : List ℕ) (m : Setting) (table work : List ℕ) (st : State) where
         ∙ ap (resumed area d)
         (store-yes begin close limit l children (position-at e n) table h ∙ ap (λ (k : ℕ). done n (position-at e k) next-table) (sym (add-one n)))
 
-    module _ (i : Inside (m .frames) s work st) (a : st .at < e) (b : e ≤ length s) (f : d ≤ m .frames) (k : m .frames * 11 ≤ length area)
+    module _ (i : TermInside (m .frames) s work st) (a : st .at < e) (b : e ≤ length s) (f : d ≤ m .frames) (k : m .frames * 11 ≤ length area)
         (w : Waiting (open-frames area d)) where
       store-went : st .rows < limit → Went s m table work st next-state next-table area
       store-went h = record {
@@ -94,13 +94,13 @@ module _ (s : List ℕ) (m : Setting) (table work : List ℕ) (st : State) where
         inside = record { source = i .source; area = k; at = b; rows = omega arith; depth = f; waiting = w };
       }
 
-      push-by : (t : Bool) → ltb (st .rows) limit ≡ t → Stepped s m table work st (pushed-term limit (st .rows) e d) (pushed-row limit table (st .rows) row) area
+      push-by : (t : Bool) → ltb (st .rows) limit ≡ t → TermStepped s m table work st (pushed-term limit (st .rows) e d) (pushed-row limit table (st .rows) row) area
       unfolding pushed-term pushed-row
       push-by true q = rw (q, pushed-term, pushed-row) (store-went (ltb-true (st .rows) limit q))
       push-by false q = rw (q, pushed-term, pushed-row) (full (ltb-false (st .rows) limit q))
 
-      pub push-stepped : (r : Step) (table₁ : List ℕ) → r ≡ pushed-term limit (st .rows) e d → table₁ ≡ pushed-row limit table (st .rows) row
-          → Stepped s m table work st r table₁ area
+      pub push-stepped : (r : TermStep) (table₁ : List ℕ) → r ≡ pushed-term limit (st .rows) e d → table₁ ≡ pushed-row limit table (st .rows) row
+          → TermStepped s m table work st r table₁ area
       push-stepped r table₁ q t = rw (q, t) (push-by (ltb (st .rows) limit) refl)
 
   abbrev waits : List OpenFrame → ℕ → ℕ → RowResult
@@ -110,7 +110,7 @@ module _ (s : List ℕ) (m : Setting) (table work : List ℕ) (st : State) where
 
   -- A step to a state that is to read a term for its last frame.
   waits-went : (frs : List OpenFrame) (e d : ℕ) (area : List ℕ) → outcome m table work st ≡ waits frs e d → open-frames area d ≡ frs
-      → Inside (m .frames) s work st → st .at ≤ e → e ≤ length s → d ≤ m .frames → length area ≡ length work → Waiting frs → 2 * (length s - e) < weight s st
+      → TermInside (m .frames) s work st → st .at ≤ e → e ≤ length s → d ≤ m .frames → length area ≡ length work → Waiting frs → 2 * (length s - e) < weight s st
       → Went s m table work st (record { at = e; rows = st .rows; depth = d; value = 0; have = false }) table area
   unfolding outcome pending
   waits-went frs e d area same q i a b f k w less = record {
@@ -159,7 +159,7 @@ module _ (s : List ℕ) (m : Setting) (table work : List ℕ) (st : State) where
           ∙ ap (resume begin close limit (suc f) (open-frames work (st .depth)))
           (term-frame begin close limit arities f here (position-at e (st .rows)) table l n begun)
 
-      pub open-went : (i : Inside (m .frames) s work st) (area : List ℕ) → st .at < e → e ≤ length s → length area ≡ length work
+      pub open-went : (i : TermInside (m .frames) s work st) (area : List ℕ) → st .at < e → e ≤ length s → length area ≡ length work
           → open-frames area (st .depth + 1) ≡ record { label = l; children = [] } ∷ open-frames work (st .depth)
           → Went s m table work st (record { at = e; rows = st .rows; depth = st .depth + 1; value = 0; have = false }) table area
       open-went i area a b k q =
@@ -168,7 +168,7 @@ module _ (s : List ℕ) (m : Setting) (table work : List ℕ) (st : State) where
           (omega arith, i .waiting) (omega arith)
 
   -- A term is complete and the frame d, which is the last, takes it.
-  module _ (d : ℕ) (have : st .have ≡ true) (deep : st .depth ≡ suc d) (i : Inside (m .frames) s work st) (area : List ℕ)
+  module _ (d : ℕ) (have : st .have ≡ true) (deep : st .depth ≡ suc d) (i : TermInside (m .frames) s work st) (area : List ℕ)
       (pushed : open-frames area (suc d) ≡ record { label = frame-at work d .label; children = frame-at work d .children ++ (st .value ∷ []) } ∷ open-frames work d) where
     abbrev f : ℕ
     f = m .frames - suc d

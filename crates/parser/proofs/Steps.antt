@@ -21,13 +21,13 @@ use Rattle.surface.specs.Reading.{lexed}
 use Rattle.expects.specs.Expects.{position-at, begun}
 use Rattle.expects.specs.declared.Begun.{Begun}
 use Rattle.parser.specs.TermRows.{refused}
-use Rattle.parser.specs.Machine.{Setting, outcome, pushed-term, pushed-row, Inside, Went, Stepped}
+use Rattle.parser.specs.Machine.{Setting, outcome, pushed-term, pushed-row, TermInside, Went, TermStepped}
 use Rattle.parser.specs.declared.State.{State}
-use Rattle.parser.specs.declared.Step.{Step}
+use Rattle.parser.specs.declared.TermStep.{TermStep}
 use Rattle.parser.proofs.States.{last-waits, others-wait, push-stepped, begin-refused, leaf-same, too-deep, open-went, more-went, close-refused, close-same}
 use Rattle.parser.proofs.Readers.{Sound}
 
-module _ (s : List ℕ) (m : Setting) (sound : Sound s m) (table work : List ℕ) (st : State) (i : Inside (m .frames) s work st) where
+module _ (s : List ℕ) (m : Setting) (sound : Sound s m) (table work : List ℕ) (st : State) (i : TermInside (m .frames) s work st) where
   -- A term is to be read, and x is what it begins with.
   module _ (x : Begun) (have : st .have ≡ false) (begins : (n : ℕ) → m .begin (position-at (st .at) n) ≡ begun n x) where
     begun-at : (y : Begun) → x ≡ y → m .begin (position-at (st .at) (st .rows)) ≡ begun (st .rows) y
@@ -36,9 +36,9 @@ module _ (s : List ℕ) (m : Setting) (sound : Sound s m) (table work : List ℕ
     pub refused-step : (r : Refusal) → x ≡ Begun.Refused r → outcome m table work st ≡ refused r
     refused-step r e = begin-refused s m table work st have r (begun-at _ e)
 
-    pub leaf-step : (l : Label) (next : ℕ) (r : Step) (table₁ : List ℕ) → x ≡ Begun.Leaf l next
+    pub leaf-step : (l : Label) (next : ℕ) (r : TermStep) (table₁ : List ℕ) → x ≡ Begun.Leaf l next
         → r ≡ pushed-term (m .limit) (st .rows) next (st .depth) → table₁ ≡ pushed-row (m .limit) table (st .rows) (surface-row (record { label = l; children = [] }))
-        → Stepped s m table work st r table₁ work
+        → TermStepped s m table work st r table₁ work
     leaf-step l next r table₁ e q t =
         let b = begun-at _ e in
         let a = sound .begins _ _ _ b in
@@ -92,10 +92,10 @@ module _ (s : List ℕ) (m : Setting) (sound : Sound s m) (table work : List ℕ
       pub unclosed-step : (r : Refusal) → x ≡ Lexed.Refused r → outcome m table work st ≡ refused r
       unclosed-step r e = close-refused s m table work st d have deep i area frames last r (closes (st .rows) ∙ ap (lexed s (st .rows)) e)
 
-      pub close-step : (t : Token) (f : TermFrame) (r : Step) (table₁ : List ℕ) → x ≡ Lexed.Got t → f ≡ term-frame area d → length area ≡ length work
+      pub close-step : (t : Token) (f : TermFrame) (r : TermStep) (table₁ : List ℕ) → x ≡ Lexed.Got t → f ≡ term-frame area d → length area ≡ length work
           → r ≡ pushed-term (m .limit) (st .rows) (t .end) d
           → table₁ ≡ pushed-row (m .limit) table (st .rows) (surface-row (record { label = f .label; children = take (f .len) (f .args) }))
-          → Stepped s m table work st r table₁ area
+          → TermStepped s m table work st r table₁ area
       unfolding frame-at
       close-step t f r table₁ e g k z u =
           let b = closes (st .rows) ∙ ap (lexed s (st .rows)) e in

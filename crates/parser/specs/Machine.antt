@@ -14,7 +14,7 @@ use Rattle.frames.specs.Frames.{OpenFrame, open-frames}
 use Rattle.expects.specs.Expects.{position-at}
 use Rattle.parser.specs.TermRows.{RowResult, done, refused, term-rows, resume}
 use Rattle.parser.specs.declared.State.{State}
-use Rattle.parser.specs.declared.Step.{Step}
+use Rattle.parser.specs.declared.TermStep.{TermStep}
 use Rattle.parser.specs.declared.TermRead.{TermRead}
 
 -- What the machine reads with: the readers of what a term begins with and of what closes a form, how many rows there is room for,
@@ -42,9 +42,9 @@ outcome m table work st =
 
 -- "8 surface row table (..) full when a completed term must be stored": the step that stores a completed term as the next row,
 -- with so many frames open behind it.
-unfoldable pub pushed-term : ℕ → ℕ → ℕ → ℕ → Step
+unfoldable pub pushed-term : ℕ → ℕ → ℕ → ℕ → TermStep
 pushed-term limit n at d =
-    cond (ltb n limit) (Step.Go (record { at = at; rows = n + 1; depth = d; value = n; have = true })) (Step.Refused (nowhere 8))
+    cond (ltb n limit) (TermStep.Go (record { at = at; rows = n + 1; depth = d; value = n; have = true })) (TermStep.Refused (nowhere 8))
 
 -- The table then.
 unfoldable pub pushed-row : ℕ → List ℕ → ℕ → List ℕ → List ℕ
@@ -68,7 +68,7 @@ Waiting [] = Unit {0}
 Waiting (f ∷ l) = (length (f .children) < arity-of (f .label .kind)) × Waiting l
 
 -- Where reading may go on: the words of a row hold offsets and counts, and the work area has the words of so many frames.
-pub record Inside (frames : ℕ) (s work : List ℕ) (st : State) : Type 0 where
+pub record TermInside (frames : ℕ) (s work : List ℕ) (st : State) : Type 0 where
   pub source : length s ≤ 4294967295
   pub area : frames * 11 ≤ length work
   pub at : st .at ≤ length s
@@ -80,11 +80,11 @@ pub record Inside (frames : ℕ) (s work : List ℕ) (st : State) : Type 0 where
 pub record Went (s : List ℕ) (m : Setting) (table work : List ℕ) (st st₁ : State) (table₁ work₁ : List ℕ) : Type 0 where
   pub same : outcome m table work st ≡ outcome m table₁ work₁ st₁
   pub less : weight s st₁ < weight s st
-  pub inside : Inside (m .frames) s work₁ st₁
+  pub inside : TermInside (m .frames) s work₁ st₁
 
-abbrev pub Stepped : List ℕ → Setting → List ℕ → List ℕ → State → Step → List ℕ → List ℕ → Type 0
-Stepped s m table work st (Step.Go st₁) table₁ work₁ = Went s m table work st st₁ table₁ work₁
-Stepped s m table work st (Step.Refused r) table₁ work₁ = outcome m table work st ≡ refused r
+abbrev pub TermStepped : List ℕ → Setting → List ℕ → List ℕ → State → TermStep → List ℕ → List ℕ → Type 0
+TermStepped s m table work st (TermStep.Go st₁) table₁ work₁ = Went s m table work st st₁ table₁ work₁
+TermStepped s m table work st (TermStep.Refused r) table₁ work₁ = outcome m table work st ≡ refused r
 
 -- The answer, and the table.
 abbrev pub Reads : RowResult → TermRead → List ℕ → Type 0
@@ -105,4 +105,4 @@ ready source area at n = leb source 4294967295 && (leb 5632 area && (leb at sour
 
 -- r is the answer for it, where it is inside.
 abbrev pub ReadsTerm : Edition → ℕ → List ℕ → List ℕ → List ℕ → ℕ → ℕ → TermRead → List ℕ → Type 0
-ReadsTerm E limit s table work at n r table₁ = Inside 512 s work (first-state at n) → Reads (whole-term (surface E s limit) table at n) r table₁
+ReadsTerm E limit s table work at n r table₁ = TermInside 512 s work (first-state at n) → Reads (whole-term (surface E s limit) table at n) r table₁

@@ -8,7 +8,7 @@ ghost use mathlib.Core.Path.{_≡_};
 ghost use mathlib.Core.Bool.{true, false};
 ghost use Prim.Native.Nat.{_<_, _≤_};
 ghost use Rattle.expects.specs.Formats.{edition};
-ghost use Rattle.parser.specs.Machine.{surface, pushed-term, pushed-row, ended, Inside, Stepped, ready, ReadsTerm};
+ghost use Rattle.parser.specs.Machine.{surface, pushed-term, pushed-row, ended, TermInside, TermStepped, ready, ReadsTerm};
 
 // "more than 512 frames open in one term" are refused.
 const FRAMES: usize = 512;
@@ -29,7 +29,7 @@ pub struct State {
     pub have: bool,
 }
 
-pub enum Step {
+pub enum TermStep {
     Go(State),
     Refused(Refusal),
 }
@@ -48,14 +48,14 @@ fn push_term(
     at: usize,
     depth: usize,
     limit: usize,
-) -> Step
+) -> TermStep
     requires { ⌜ rows ≤ 4294967295 ⌝ }
     ensures { λ r. ⌜ r ≡ pushed-term limit rows at depth ⌝ }
     ensures { λ r. ⌜ now (table .exit) ≡ pushed-row limit (now (table .entry)) rows row ⌝ }
 {
     if rows < limit {
         rows::store_row(table, rows, row);
-        return Step::Go(State {
+        return TermStep::Go(State {
             at: at,
             rows: rows + 1,
             depth: depth,
@@ -63,7 +63,7 @@ fn push_term(
             have: true,
         });
     }
-    Step::Refused(expects::refused_nowhere(8))
+    TermStep::Refused(expects::refused_nowhere(8))
 }
 
 // A term is to be read: all of it, or a new frame.
@@ -74,17 +74,17 @@ fn term_step(
     st: State,
     limit: usize,
     format: Format,
-) -> Step
-    requires { ⌜ Inside 512 (now s) (now work) st ⌝ }
+) -> TermStep
+    requires { ⌜ TermInside 512 (now s) (now work) st ⌝ }
     requires { ⌜ st .have ≡ false ⌝ }
-    ensures { λ r. ⌜ Stepped (now (s .entry)) (surface (edition format) (now (s .entry)) limit) (now (table .entry)) (now (work .entry)) st r (now (table .exit)) (now (work .exit)) ⌝ }
+    ensures { λ r. ⌜ TermStepped (now (s .entry)) (surface (edition format) (now (s .entry)) limit) (now (table .entry)) (now (work .entry)) st r (now (table .exit)) (now (work .exit)) ⌝ }
 {
     let at = st.at;
     let rows = st.rows;
     let depth = st.depth;
     let begun = expects::begin_term(s, at, format);
     match begun {
-        Begun::Refused(r) => Step::Refused(r),
+        Begun::Refused(r) => TermStep::Refused(r),
         Begun::Leaf(label, next) => {
             let none = [0u32; 6];
             let row = rows::surface_row(label, none, 0);
@@ -93,7 +93,7 @@ fn term_step(
         Begun::Frame(label, next) => {
             if depth < FRAMES {
                 frames::open_frame(work, depth, label);
-                return Step::Go(State {
+                return TermStep::Go(State {
                     at: next,
                     rows: rows,
                     depth: depth + 1,
@@ -101,7 +101,7 @@ fn term_step(
                     have: false,
                 });
             }
-            Step::Refused(expects::refused_nowhere(7))
+            TermStep::Refused(expects::refused_nowhere(7))
         }
     }
 }
@@ -114,11 +114,11 @@ fn value_step(
     st: State,
     limit: usize,
     format: Format,
-) -> Step
-    requires { ⌜ Inside 512 (now s) (now work) st ⌝ }
+) -> TermStep
+    requires { ⌜ TermInside 512 (now s) (now work) st ⌝ }
     requires { ⌜ st .have ≡ true ⌝ }
     requires { ⌜ 0 < st .depth ⌝ }
-    ensures { λ r. ⌜ Stepped (now (s .entry)) (surface (edition format) (now (s .entry)) limit) (now (table .entry)) (now (work .entry)) st r (now (table .exit)) (now (work .exit)) ⌝ }
+    ensures { λ r. ⌜ TermStepped (now (s .entry)) (surface (edition format) (now (s .entry)) limit) (now (table .entry)) (now (work .entry)) st r (now (table .exit)) (now (work .exit)) ⌝ }
 {
     let at = st.at;
     let rows = st.rows;
@@ -128,7 +128,7 @@ fn value_step(
     let len = frames::frame_len(work, d);
     let kind = frames::frame_kind(work, d);
     if len < rows::arity(kind) {
-        return Step::Go(State {
+        return TermStep::Go(State {
             at: at,
             rows: rows,
             depth: depth,
@@ -138,7 +138,7 @@ fn value_step(
     }
     let close = expects::expect_rparen(s, at);
     match close {
-        Lexed::Refused(r) => Step::Refused(r),
+        Lexed::Refused(r) => TermStep::Refused(r),
         Lexed::Got(t) => {
             let f = frames::load_frame(work, d);
             let label = f.label;
@@ -157,10 +157,10 @@ fn next_step(
     st: State,
     limit: usize,
     format: Format,
-) -> Step
-    requires { ⌜ Inside 512 (now s) (now work) st ⌝ }
+) -> TermStep
+    requires { ⌜ TermInside 512 (now s) (now work) st ⌝ }
     requires { ⌜ ended st ≡ false ⌝ }
-    ensures { λ r. ⌜ Stepped (now (s .entry)) (surface (edition format) (now (s .entry)) limit) (now (table .entry)) (now (work .entry)) st r (now (table .exit)) (now (work .exit)) ⌝ }
+    ensures { λ r. ⌜ TermStepped (now (s .entry)) (surface (edition format) (now (s .entry)) limit) (now (table .entry)) (now (work .entry)) st r (now (table .exit)) (now (work .exit)) ⌝ }
 {
     let have = st.have;
     if have {
@@ -229,10 +229,10 @@ pub fn read_term(
         }
         let r = next_step(s, table, work, st, limit, format);
         match r {
-            Step::Go(t) => {
+            TermStep::Go(t) => {
                 st = t;
             }
-            Step::Refused(x) => {
+            TermStep::Refused(x) => {
                 return TermRead::Refused(x);
             }
         }

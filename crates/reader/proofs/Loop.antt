@@ -7,10 +7,10 @@ use lib.ListN.{length}
 use Rattle.token.specs.declared.Refusal.{Refusal}
 use Rattle.expects.specs.declared.Format.{Format}
 use Rattle.reader.specs.declared.Limits.{Limits}
-use Rattle.reader.specs.declared.Step.{Step}
+use Rattle.reader.specs.declared.ModuleStep.{ModuleStep}
 use Rattle.reader.specs.declared.ModuleRead.{ModuleRead}
-use Rattle.reader.specs.Parts.{ReadsFrom, left, Stepped, HasRoom}
-use Rattle.reader.specs.Reads.{Inside}
+use Rattle.reader.specs.Parts.{ReadsFrom, left, ModuleStepped, HasRoom}
+use Rattle.reader.specs.Reads.{ModuleInside}
 
 module _ (format : Format) (limits : Limits) (s table₀ list₀ work₀ : List ℕ) (from : ℕ) where
   -- The answer for all declarations.
@@ -22,33 +22,33 @@ module _ (format : Format) (limits : Limits) (s table₀ list₀ work₀ : List 
     pub list-long : length list ≡ length list₀
     pub work-long : length work ≡ length work₀
     pub few : k ≤ limits .declarations
-    pub inside : Inside (limits .rows) s work₀ from 0 → Inside (limits .rows) s work at n
-    pub same : Inside (limits .rows) s work₀ from 0 → (r : ModuleRead) (table₁ list₁ : List ℕ) → ReadsFrom limits n k (left format limits s at n k) table list r table₁ list₁ → Answers r table₁ list₁
+    pub inside : ModuleInside (limits .rows) s work₀ from 0 → ModuleInside (limits .rows) s work at n
+    pub same : ModuleInside (limits .rows) s work₀ from 0 → (r : ModuleRead) (table₁ list₁ : List ℕ) → ReadsFrom limits n k (left format limits s at n k) table list r table₁ list₁ → Answers r table₁ list₁
 
   pub start : Reading table₀ list₀ work₀ from 0 0
   start = record { table-long = refl; list-long = refl; work-long = refl; few = omega arith; inside = λ i. i; same = λ i r table₁ list₁ h. h }
 
-  module _ (table list work : List ℕ) (at n k : ℕ) (o : Reading table list work at n k) (x : Step) (table₁ list₁ work₁ : List ℕ)
-      (g : Inside (limits .rows) s work at n → k ≤ limits .declarations → Stepped format limits s table list at n k x table₁ list₁ work₁) where
-    stepped : (y : Step) → x ≡ y → Inside (limits .rows) s work₀ from 0 → Stepped format limits s table list at n k y table₁ list₁ work₁
-    stepped y e i = subst (λ (z : Step). Stepped format limits s table list at n k z table₁ list₁ work₁) e (g (o .inside i) (o .few))
+  module _ (table list work : List ℕ) (at n k : ℕ) (o : Reading table list work at n k) (x : ModuleStep) (table₁ list₁ work₁ : List ℕ)
+      (g : ModuleInside (limits .rows) s work at n → k ≤ limits .declarations → ModuleStepped format limits s table list at n k x table₁ list₁ work₁) where
+    stepped : (y : ModuleStep) → x ≡ y → ModuleInside (limits .rows) s work₀ from 0 → ModuleStepped format limits s table list at n k y table₁ list₁ work₁
+    stepped y e i = subst (λ (z : ModuleStep). ModuleStepped format limits s table list at n k z table₁ list₁ work₁) e (g (o .inside i) (o .few))
 
-    pub roomy : HasRoom limits k x → (n₁ at₁ : ℕ) → x ≡ Step.Declared n₁ at₁ → k < limits .declarations
+    pub roomy : HasRoom limits k x → (n₁ at₁ : ℕ) → x ≡ ModuleStep.Declared n₁ at₁ → k < limits .declarations
     roomy h n₁ at₁ e = rw e at h
 
     pub next : HasRoom limits k x → (u : length table₁ ≡ length table) (v : length list₁ ≡ length list) (w : length work₁ ≡ length work)
-        → (n₁ at₁ : ℕ) → x ≡ Step.Declared n₁ at₁ → Reading table₁ list₁ work₁ at₁ n₁ (k + 1)
+        → (n₁ at₁ : ℕ) → x ≡ ModuleStep.Declared n₁ at₁ → Reading table₁ list₁ work₁ at₁ n₁ (k + 1)
     next h u v w n₁ at₁ e = record {
       table-long = u ∙ o .table-long;
       list-long = v ∙ o .list-long;
       work-long = w ∙ o .work-long;
       few = omega (arith, roomy h n₁ at₁ e);
-      inside = λ i. stepped (Step.Declared n₁ at₁) e i .inside;
-      same = λ i r table₂ list₂ a. o .same i r table₂ list₂ (stepped (Step.Declared n₁ at₁) e i .same r table₂ list₂ a);
+      inside = λ i. stepped (ModuleStep.Declared n₁ at₁) e i .inside;
+      same = λ i r table₂ list₂ a. o .same i r table₂ list₂ (stepped (ModuleStep.Declared n₁ at₁) e i .same r table₂ list₂ a);
     }
 
-    pub ended : x ≡ Step.End → Inside (limits .rows) s work₀ from 0 → Answers (ModuleRead.Done n k) table₁ list₁
-    ended e i = o .same i _ _ _ (stepped Step.End e i)
+    pub ended : x ≡ ModuleStep.End → ModuleInside (limits .rows) s work₀ from 0 → Answers (ModuleRead.Done n k) table₁ list₁
+    ended e i = o .same i _ _ _ (stepped ModuleStep.End e i)
 
-    pub stopped : (r : Refusal) → x ≡ Step.Refused r → Inside (limits .rows) s work₀ from 0 → Answers (ModuleRead.Refused r) table₁ list₁
-    stopped r e i = o .same i _ _ _ (rw (stepped (Step.Refused r) e i) refl)
+    pub stopped : (r : Refusal) → x ≡ ModuleStep.Refused r → ModuleInside (limits .rows) s work₀ from 0 → Answers (ModuleRead.Refused r) table₁ list₁
+    stopped r e i = o .same i _ _ _ (rw (stepped (ModuleStep.Refused r) e i) refl)

@@ -17,7 +17,7 @@ use Rattle.reader.specs.declared.Limits.{Limits}
 use Rattle.reader.specs.declared.ModuleRead.{ModuleRead}
 use Rattle.reader.specs.ModuleWords.{all-declarations}
 use Rattle.reader.specs.Parts.{ReadsFrom, left}
-use Rattle.reader.specs.Reads.{Holds, Inside, ReadsWithin, ReadsModule}
+use Rattle.reader.specs.Reads.{Holds, ModuleInside, ReadsWithin, ReadsModule}
 
 -- Declarations behind no row and no declaration are all.
 from-start : (limits : Limits) (x : Result (List Declaration)) (table list : List ℕ) (r : ModuleRead) (table₁ list₁ : List ℕ) → ReadsFrom limits 0 0 x table list r table₁ list₁
@@ -41,7 +41,7 @@ module _ (limits : Limits) (s table list : List ℕ) (x : HeadRead) (h : Heads s
         rw (h 0, e) (ap (λ (i : ℕ). all-declarations format s (limits .rows) i (position-at next 0)) z)
 
     pub head-got : (work : List ℕ) → length s ≤ 4294967295 → 5632 ≤ length work → (r : ModuleRead) (table₁ list₁ : List ℕ)
-        → (Inside (limits .rows) s work next 0 → ReadsFrom limits 0 0 (left format limits s next 0 0) table list r table₁ list₁) → ReadsWithin limits answer table list r table₁ list₁
+        → (ModuleInside (limits .rows) s work next 0 → ReadsFrom limits 0 0 (left format limits s next 0 0) table list r table₁ list₁) → ReadsWithin limits answer table list r table₁ list₁
     head-got work a b r table₁ list₁ g =
         let w = ahead s x h format t next e 0 .ahead .high in
         from-start limits answer table list r table₁ list₁

@@ -19,7 +19,7 @@ use Rattle.reader.specs.declared.Limits.{Limits}
 use Rattle.reader.specs.declared.DeclarationRead.{DeclarationRead}
 use Rattle.reader.specs.ModuleWords.{whole-term, one-body}
 use Rattle.reader.specs.Parts.{BodyReads, ReadsBody, Finishes}
-use Rattle.reader.specs.Reads.{Inside, Declares}
+use Rattle.reader.specs.Reads.{ModuleInside, Declares}
 use Rattle.reader.proofs.Ahead.{term-onward}
 use Rattle.reader.proofs.Parts.{present, term-inside, term-read, TypeRead, type-done, type-refused, body-done, body-refused}
 use Rattle.reader.proofs.Declarations as by
@@ -27,12 +27,12 @@ use Rattle.reader.proofs.Declarations as by
 pub name-order : (format : Format) (s : List ℕ) (at : ℕ) (x : Lexed) → Reads s (name (edition format) s) at x → (m : Token) → x ≡ Got m → m .start ≤ m .end
 name-order format s at x h m e = let a = read-ahead s (name (edition format) s) (λ p. name-ahead s p (edition format)) at x h m e 0 in omega arith
 
-module _ (format : Format) (limits : Limits) (s table list work : List ℕ) (at n k : ℕ) (t : Token) (j kind : ℕ) (inside : Inside (limits .rows) s work at n) (room : k < limits .declarations) (is : kind ≡ suc j)
+module _ (format : Format) (limits : Limits) (s table list work : List ℕ) (at n k : ℕ) (t : Token) (j kind : ℕ) (inside : ModuleInside (limits .rows) s work at n) (room : k < limits .declarations) (is : kind ≡ suc j)
     (x : Lexed) (h : Reads s (name (edition format) s) at x) (m : Token) (e : x ≡ Got m) where
   named : TokenAhead s (position-at at n) m (position-at (m .end) n)
   named = read-ahead s (name (edition format) s) (λ p. name-ahead s p (edition format)) at x h m e n
 
-  type-at : Inside (limits .rows) s work (m .end) n
+  type-at : ModuleInside (limits .rows) s work (m .end) n
   type-at = record { source = inside .source; area = inside .area; within = named .high; few = omega (arith, named, inside .few); stored = inside .stored }
 
   -- The type.
@@ -48,7 +48,7 @@ module _ (format : Format) (limits : Limits) (s table list work : List ℕ) (at 
       type : TypeRead (limits .rows) (whole-term format s (limits .rows) (position-at (m .end) n)) n table row n₁ at₁ table₁
       type = type-done (limits .rows) n table y table₁ row n₁ at₁ i _ typed
 
-      body-at : Inside (limits .rows) s work₁ at₁ n₁
+      body-at : ModuleInside (limits .rows) s work₁ at₁ n₁
       body-at =
           let o = term-onward format s (limits .rows) (position-at (m .end) n) (position-at at₁ n₁) (type .type) (type .read) in
           record {

@@ -13,7 +13,7 @@ use Rattle.tables.specs.Tables.{with-words}
 use Rattle.expects.specs.Expects.{position-at}
 use Rattle.parser.specs.TermRows.{RowResult, as-rows}
 use Rattle.frames.specs.Frames.{open-frames}
-use Rattle.parser.specs.Machine.{surface, Inside as TermInside, Reads, first-state, whole-term as term-in-rows}
+use Rattle.parser.specs.Machine.{surface, TermInside, Reads, first-state, whole-term as term-in-rows}
 use Rattle.parser.specs.declared.TermRead.{TermRead}
 use Rattle.parser.proofs.Readers.{surface-sound, whole-rows}
 use Rattle.parser.proofs.StoredRows.{with-no-words, stored-words}
@@ -22,11 +22,11 @@ use Rattle.expects.specs.declared.Format.{Format}
 use Rattle.expects.specs.Formats.{edition}
 use Rattle.reader.specs.ModuleWords.{whole-term, one-body, forest-words, body-trees, body-row}
 use Rattle.reader.specs.Parts.{BodyReads}
-use Rattle.reader.specs.Reads.{Holds, Inside}
+use Rattle.reader.specs.Reads.{Holds, ModuleInside}
 use Rattle.reader.proofs.Ahead.{term-onward}
 
 -- Where a term may be read.
-pub term-inside : (limit : ℕ) (s work : List ℕ) (at n : ℕ) → Inside limit s work at n → TermInside 512 s work (first-state at n)
+pub term-inside : (limit : ℕ) (s work : List ℕ) (at n : ℕ) → ModuleInside limit s work at n → TermInside 512 s work (first-state at n)
 unfolding open-frames
 term-inside limit s work at n i = record { source = i .source; area = i .area; at = i .within; rows = i .few; depth = omega arith; waiting = tt }
 

@@ -27,7 +27,7 @@ use Rattle.reader.specs.declared.DeclarationRead.{DeclarationRead}
 use Rattle.reader.specs.declared.ModuleRead.{ModuleRead}
 use Rattle.reader.specs.ModuleWords.{whole-term, one-declaration, all-declarations, row-words}
 use Rattle.reader.specs.Parts.{ReadsFrom, left, Went}
-use Rattle.reader.specs.Reads.{Holds, Inside, Declares}
+use Rattle.reader.specs.Reads.{Holds, ModuleInside, Declares}
 use Rattle.reader.proofs.Ahead.{declaration-onward}
 use Rattle.reader.proofs.Words.{joined-append, length-forest}
 
@@ -112,13 +112,13 @@ module _ (limits : Limits) (n k n₁ : ℕ) (table list table₁ list₁ : List 
   )
 
 -- A declaration that was read behind the parenthesis t.
-module _ (format : Format) (limits : Limits) (s table list : List ℕ) (at n k : ℕ) (work work₁ : List ℕ) (inside : Inside (limits .rows) s work at n) (room : k < limits .declarations) (x : Lexed) (h : x ≡ next-token s at)
+module _ (format : Format) (limits : Limits) (s table list : List ℕ) (at n k : ℕ) (work work₁ : List ℕ) (inside : ModuleInside (limits .rows) s work at n) (room : k < limits .declarations) (x : Lexed) (h : x ≡ next-token s at)
     (t : Token) (e : x ≡ Got t) (opens : t .kind ≡ TokenKind.LParen) where
   opened : TokenAhead s (position-at at n) t (position-at (t .end) n)
   unfolding token
   opened = token-got s _ t _ (ap (lexed s n) (sym h ∙ e)) (λ i. let z : _≡_ {A = ℕ} 0 1 = cc in omega arith)
 
-  behind-parenthesis : Inside (limits .rows) s work (t .end) n
+  behind-parenthesis : ModuleInside (limits .rows) s work (t .end) n
   behind-parenthesis = record { source = inside .source; area = inside .area; within = opened .high; few = omega (arith, opened, inside .few); stored = inside .stored }
 
   abbrev one : Result Declaration
@@ -131,7 +131,7 @@ module _ (format : Format) (limits : Limits) (s table list : List ℕ) (at n k :
   opens-to = next-opens format s (limits .rows) at n (limits .declarations - k) x h t e opens others (omega arith)
 
   module _ (y : DeclarationRead) (table₁ list₁ : List ℕ) (u : length table₁ ≡ length table) (v : length list₁ ≡ length list) (w : length work₁ ≡ length work)
-      (g : Inside (limits .rows) s work (t .end) n → k < limits .declarations → Declares limits one n k table list y table₁ list₁) where
+      (g : ModuleInside (limits .rows) s work (t .end) n → k < limits .declarations → Declares limits one n k table list y table₁ list₁) where
     pub declaration-stops : (r : Refusal) → y ≡ DeclarationRead.Refused r → left format limits s at n k ≡ refused r
     declaration-stops r i = by one refl (g behind-parenthesis room)
       where

@@ -17,11 +17,11 @@ use Rattle.expects.specs.declared.Format.{Format}
 use Rattle.reader.specs.declared.Limits.{Limits}
 use Rattle.reader.specs.declared.DeclarationRead.{DeclarationRead}
 use Rattle.reader.specs.ModuleWords.{named-declaration, one-declaration}
-use Rattle.reader.specs.Reads.{Inside, Declares}
+use Rattle.reader.specs.Reads.{ModuleInside, Declares}
 
 -- Reading may go on behind the word.
-pub behind-word : (limit : ℕ) (s work : List ℕ) (at n : ℕ) (x : Lexed) → Reads s (atom s) at x → (t : Token) → x ≡ Got t → Inside limit s work at n
-    → Inside limit s work (t .end) n
+pub behind-word : (limit : ℕ) (s work : List ℕ) (at n : ℕ) (x : Lexed) → Reads s (atom s) at x → (t : Token) → x ≡ Got t → ModuleInside limit s work at n
+    → ModuleInside limit s work (t .end) n
 behind-word limit s work at n x h t e i =
     let a = read-ahead s (atom s) (atom-ahead s) at x h t e n in
     record { source = i .source; area = i .area; within = a .high; few = omega arith; stored = i .stored }

@@ -15,10 +15,10 @@ use Rattle.expects.specs.declared.Format.{Format}
 use Rattle.expects.specs.Expects.{position-at}
 use Rattle.parser.specs.declared.TermRead.{TermRead}
 use Rattle.reader.specs.ModuleWords.{one-body, named-declaration, one-declaration, all-declarations, forest-words, body-trees, body-row}
-use Rattle.reader.specs.Reads.{Holds, Inside, Declares}
+use Rattle.reader.specs.Reads.{Holds, ModuleInside, Declares}
 use Rattle.reader.specs.declared.Limits.{Limits}
 use Rattle.reader.specs.declared.DeclarationRead.{DeclarationRead}
-use Rattle.reader.specs.declared.Step.{Step}
+use Rattle.reader.specs.declared.ModuleStep.{ModuleStep}
 use Rattle.reader.specs.declared.ModuleRead.{ModuleRead}
 
 -- The answer for a body behind n rows: its rows stand behind the rows, in a table that holds as many as there is room for.
@@ -30,7 +30,7 @@ BodyReads limit (refused x) n table r table₁ = r ≡ TermRead.Refused x
 -- r is the answer for the body of a declaration of a kind.
 abbrev pub ReadsBody : Format → Limits → List ℕ → List ℕ → List ℕ → ℕ → ℕ → ℕ → TermRead → List ℕ → Type 0
 ReadsBody f limits s table work kind at n r table₁ =
-    Inside (limits .rows) s work at n → (j : ℕ) → kind ≡ suc j → BodyReads (limits .rows) (one-body f s (limits .rows) j (position-at at n)) n table r table₁
+    ModuleInside (limits .rows) s work at n → (j : ℕ) → kind ≡ suc j → BodyReads (limits .rows) (one-body f s (limits .rows) j (position-at at n)) n table r table₁
 
 -- The answer for a declaration's end: its record is stored once its parenthesis is read, and not before.
 abbrev pub Finishes : Result Token → ℕ → List ℕ → List ℕ → DeclarationRead → List ℕ → Type 0
@@ -40,13 +40,13 @@ Finishes (refused x) k list words r list₁ = (r ≡ DeclarationRead.Refused x) 
 -- r is the answer for a declaration of a kind behind its word. The word itself plays no part any more.
 abbrev pub ReadsNamed : Format → Limits → List ℕ → List ℕ → List ℕ → List ℕ → ℕ → ℕ → ℕ → ℕ → DeclarationRead → List ℕ → List ℕ → Type 0
 ReadsNamed f limits s table list work kind at n k r table₁ list₁ =
-    Inside (limits .rows) s work at n → k < limits .declarations → (t : Token) (j : ℕ) → kind ≡ suc j
+    ModuleInside (limits .rows) s work at n → k < limits .declarations → (t : Token) (j : ℕ) → kind ≡ suc j
     → Declares limits (named-declaration f s (limits .rows) t (suc j) (position-at at n)) n k table list r table₁ list₁
 
 -- r is the answer for a declaration behind its parenthesis.
 abbrev pub ReadsDeclaration : Format → Limits → List ℕ → List ℕ → List ℕ → List ℕ → ℕ → ℕ → ℕ → DeclarationRead → List ℕ → List ℕ → Type 0
 ReadsDeclaration f limits s table list work at n k r table₁ list₁ =
-    Inside (limits .rows) s work at n → k < limits .declarations
+    ModuleInside (limits .rows) s work at n → k < limits .declarations
     → Declares limits (one-declaration f s (limits .rows) (position-at at n)) n k table list r table₁ list₁
 
 -- The answer for the declarations that stand behind n rows and k declarations: the words of their rows and records stand behind those.
@@ -62,27 +62,27 @@ left f limits s at n k = all-declarations f s (limits .rows) (limits .declaratio
 
 -- A declaration was read: the answer for what is left then is the answer for what was left before.
 pub record Went (f : Format) (limits : Limits) (s table list : List ℕ) (at n k at₁ n₁ : ℕ) (table₁ list₁ work₁ : List ℕ) : Type 0 where
-  pub inside : Inside (limits .rows) s work₁ at₁ n₁
+  pub inside : ModuleInside (limits .rows) s work₁ at₁ n₁
   pub same : (r : ModuleRead) (table₂ list₂ : List ℕ)
       → ReadsFrom limits n₁ (k + 1) (left f limits s at₁ n₁ (k + 1)) table₁ list₁ r table₂ list₂ → ReadsFrom limits n k (left f limits s at n k) table list r table₂ list₂
 
 -- What stands next behind n rows and k declarations.
-abbrev pub Stepped : Format → Limits → List ℕ → List ℕ → List ℕ → ℕ → ℕ → ℕ → Step → List ℕ → List ℕ → List ℕ → Type 0
-Stepped f limits s table list at n k (Step.Declared n₁ at₁) table₁ list₁ work₁ = Went f limits s table list at n k at₁ n₁ table₁ list₁ work₁
-Stepped f limits s table list at n k Step.End table₁ list₁ work₁ = ReadsFrom limits n k (left f limits s at n k) table list (ModuleRead.Done n k) table₁ list₁
-Stepped f limits s table list at n k (Step.Refused x) table₁ list₁ work₁ = left f limits s at n k ≡ refused x
+abbrev pub ModuleStepped : Format → Limits → List ℕ → List ℕ → List ℕ → ℕ → ℕ → ℕ → ModuleStep → List ℕ → List ℕ → List ℕ → Type 0
+ModuleStepped f limits s table list at n k (ModuleStep.Declared n₁ at₁) table₁ list₁ work₁ = Went f limits s table list at n k at₁ n₁ table₁ list₁ work₁
+ModuleStepped f limits s table list at n k ModuleStep.End table₁ list₁ work₁ = ReadsFrom limits n k (left f limits s at n k) table list (ModuleRead.Done n k) table₁ list₁
+ModuleStepped f limits s table list at n k (ModuleStep.Refused x) table₁ list₁ work₁ = left f limits s at n k ≡ refused x
 
-abbrev pub Steps : Format → Limits → List ℕ → List ℕ → List ℕ → List ℕ → ℕ → ℕ → ℕ → Step → List ℕ → List ℕ → List ℕ → Type 0
+abbrev pub Steps : Format → Limits → List ℕ → List ℕ → List ℕ → List ℕ → ℕ → ℕ → ℕ → ModuleStep → List ℕ → List ℕ → List ℕ → Type 0
 Steps f limits s table list work at n k r table₁ list₁ work₁ =
-    Inside (limits .rows) s work at n → k ≤ limits .declarations → Stepped f limits s table list at n k r table₁ list₁ work₁
+    ModuleInside (limits .rows) s work at n → k ≤ limits .declarations → ModuleStepped f limits s table list at n k r table₁ list₁ work₁
 
 -- A declaration is read only where there is room for its record.
-abbrev pub HasRoom : Limits → ℕ → Step → Type 0
-HasRoom limits k (Step.Declared n at) = k < limits .declarations
-HasRoom limits k Step.End = Unit {0}
-HasRoom limits k (Step.Refused x) = Unit {0}
+abbrev pub HasRoom : Limits → ℕ → ModuleStep → Type 0
+HasRoom limits k (ModuleStep.Declared n at) = k < limits .declarations
+HasRoom limits k ModuleStep.End = Unit {0}
+HasRoom limits k (ModuleStep.Refused x) = Unit {0}
 
 -- r is the answer for the declarations from an offset on, where no row and no declaration is stored.
 abbrev pub ReadsDeclarations : Format → Limits → List ℕ → List ℕ → List ℕ → List ℕ → ℕ → ModuleRead → List ℕ → List ℕ → Type 0
 ReadsDeclarations f limits s table list work from r table₁ list₁ =
-    Inside (limits .rows) s work from 0 → ReadsFrom limits 0 0 (left f limits s from 0 0) table list r table₁ list₁
+    ModuleInside (limits .rows) s work from 0 → ReadsFrom limits 0 0 (left f limits s from 0 0) table list r table₁ list₁

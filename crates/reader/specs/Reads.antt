@@ -17,7 +17,7 @@ abbrev pub Holds : ℕ → ℕ → List ℕ → Type 0
 Holds width limit t = limit ≤ length t / width
 
 -- Where reading may go on: at an offset, behind n rows, of which there is room for so many.
-pub record Inside (limit : ℕ) (s work : List ℕ) (at n : ℕ) : Type 0 where
+pub record ModuleInside (limit : ℕ) (s work : List ℕ) (at n : ℕ) : Type 0 where
   pub source : length s ≤ 4294967295
   pub area : 5632 ≤ length work
   pub within : at ≤ length s

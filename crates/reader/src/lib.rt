@@ -30,7 +30,7 @@ pub enum DeclarationRead {
 }
 
 // What stands next in a module: a declaration, with the same numbers; the end; or the refusal.
-enum Step {
+enum ModuleStep {
     Declared { rows: usize, next: usize },
     End,
     Refused(Refusal),
@@ -176,32 +176,32 @@ fn next_declaration(
     k: usize,
     limits: Limits,
     format: Format,
-) -> Step
+) -> ModuleStep
     ensures { λ r. ⌜ Steps format limits (now (s .entry)) (now (table .entry)) (now (list .entry)) (now (work .entry)) at rows k r (now (table .exit)) (now (list .exit)) (now (work .exit)) ⌝ }
     ensures { λ r. ⌜ HasRoom limits k r ⌝ }
 {
     let l = expects::next_token(s, at);
     match l {
-        Lexed::Refused(r) => Step::Refused(r),
+        Lexed::Refused(r) => ModuleStep::Refused(r),
         Lexed::Got(t) => {
             let kind = t.kind;
             match kind {
-                TokenKind::Eof => Step::End,
+                TokenKind::Eof => ModuleStep::End,
                 TokenKind::LParen => {
                     if limits.declarations <= k {
                         // "9 declaration list full", nowhere
-                        return Step::Refused(expects::refused_nowhere(9));
+                        return ModuleStep::Refused(expects::refused_nowhere(9));
                     }
                     let d = read_declaration(s, table, list, work, t.end, rows, k, limits, format);
                     match d {
-                        DeclarationRead::Refused(r) => Step::Refused(r),
-                        DeclarationRead::Done { rows: n, next } => Step::Declared {
+                        DeclarationRead::Refused(r) => ModuleStep::Refused(r),
+                        DeclarationRead::Done { rows: n, next } => ModuleStep::Declared {
                             rows: n,
                             next: next,
                         },
                     }
                 }
-                _ => Step::Refused(expects::refused_at(1, t.start)),
+                _ => ModuleStep::Refused(expects::refused_at(1, t.start)),
             }
         }
     }
@@ -225,16 +225,16 @@ fn read_declarations(
     loop {
         let step = next_declaration(s, table, list, work, at, rows, k, limits, format);
         match step {
-            Step::Refused(r) => {
+            ModuleStep::Refused(r) => {
                 return ModuleRead::Refused(r);
             }
-            Step::End => {
+            ModuleStep::End => {
                 return ModuleRead::Done {
                     rows: rows,
                     declarations: k,
                 };
             }
-            Step::Declared { rows: n, next } => {
+            ModuleStep::Declared { rows: n, next } => {
                 at = next;
                 rows = n;
                 k += 1;

@@ -30,7 +30,11 @@ fn ask_words(
     count: usize,
     work: &mut [u32],
 ) -> Reply
-    ensures { λ r. ⌜ Replies (now (s .entry)) question (tables (now (surface .entry)) (now (core .entry)) (front count (now (words .entry)) (now (words .entry))) (now (work .entry))) r (tables (now (surface .exit)) (now (core .exit)) (front count (now (words .entry)) (now (words .exit))) (now (work .exit))) ⌝ }
+    ensures { λ r. ⌜
+        Replies (now (s .entry)) question (tables (now (surface .entry)) (now (core .entry))
+        (front count (now (words .entry)) (now (words .entry))) (now (work .entry))) r (tables (now (surface .exit))
+        (now (core .exit)) (front count (now (words .entry)) (now (words .exit))) (now (work .exit)))
+        ⌝ }
 {
     let limit = records::word_limit(count, words.len());
     match question {

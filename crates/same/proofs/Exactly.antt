@@ -13,7 +13,7 @@ use Rattle.surface.specs.Agreement.{Agreement}
 use Rattle.surface.proofs.CompleteModule.{unique}
 use Rattle.surface.proofs.Demand.{by-definition}
 use Rattle.same.specs.declared.Comparison.{Comparison}
-use Rattle.same.specs.Comparison.{PartAt, Parting, Compares, Answers, Tables, Asked, report-comparison}
+use Rattle.same.specs.Comparison.{PartAt, Parting, Compares, SameAnswers, Tables, SameAsked, report-comparison}
 use Rattle.same.specs.Statements.{AnswersExactly, SameCoreExactly, ComparingReports, CompareReports}
 
 -- Two modules part at one place only, and only if they do not agree.
@@ -68,13 +68,13 @@ module _ (s t : List ℕ) where
   one-answer (Comparison.SecondRefused r) b p q = absurd p
 
   -- The answer is determined, refusals too.
-  pub determined : (b c : Answer) (a d : Comparison) → Answers s t b c a → Answers s t b c d → a ≡ d
+  pub determined : (b c : Answer) (a d : Comparison) → SameAnswers s t b c a → SameAnswers s t b c d → a ≡ d
   determined (Answer.Refused r) c a d p q = p ∙ sym q
   determined (Answer.Loaded m n) (Answer.Refused r) a d p q = p ∙ sym q
   determined (Answer.Loaded m n) (Answer.Loaded o r) a d p q = one-answer a d p q
 
-compares : (s t : List ℕ) (y z : Lengths) (a : Comparison) (x w : Tables) → Asked s t y z a x w → Accepts (load s y) → Accepts (load t z) → Compares s t a
-compares s t y z a x w p f g = subst₂ (λ (b c : Answer). Answers s t b c a) (f .2) (g .2) (p .answers)
+compares : (s t : List ℕ) (y z : Lengths) (a : Comparison) (x w : Tables) → SameAsked s t y z a x w → Accepts (load s y) → Accepts (load t z) → Compares s t a
+compares s t y z a x w p f g = subst₂ (λ (b c : Answer). SameAnswers s t b c a) (f .2) (g .2) (p .answers)
 
 pub answers-exactly : AnswersExactly
 answers-exactly s t y z a x w p f g b =
@@ -94,7 +94,7 @@ module _ (s t : List ℕ) where
   both-report (Comparison.FirstRefused r) i j l m h = absurd h
   both-report (Comparison.SecondRefused r) i j l m h = absurd h
 
-  reports : (b c : Answer) (a : Comparison) → Answers s t b c a → ComparingReports s t b c (report-comparison a)
+  reports : (b c : Answer) (a : Comparison) → SameAnswers s t b c a → ComparingReports s t b c (report-comparison a)
   reports (Answer.Refused r) c a h = ap report-comparison h
   reports (Answer.Loaded i j) (Answer.Refused r) a h = ap report-comparison h
   reports (Answer.Loaded i j) (Answer.Loaded l m) a h = both-report a i j l m h

@@ -5,5 +5,5 @@ mod Prefixes
 mod ModuleTables
 mod SameModules
 mod Loaded
-mod Asked
+mod SameAsked
 pub mod Exactly

@@ -40,10 +40,10 @@ Compares s t (Comparison.FirstRefused r) = ⊥
 Compares s t (Comparison.SecondRefused r) = ⊥
 
 -- Ours: a source that does not load gives its refusal, the first source's coming first. By the answers of loading the two.
-abbrev pub Answers : List ℕ → List ℕ → Answer → Answer → Comparison → Type 0
-Answers s t (Answer.Refused r) b a = a ≡ Comparison.FirstRefused r
-Answers s t (Answer.Loaded m n) (Answer.Refused r) a = a ≡ Comparison.SecondRefused r
-Answers s t (Answer.Loaded m n) (Answer.Loaded o p) a = Compares s t a
+abbrev pub SameAnswers : List ℕ → List ℕ → Answer → Answer → Comparison → Type 0
+SameAnswers s t (Answer.Refused r) b a = a ≡ Comparison.FirstRefused r
+SameAnswers s t (Answer.Loaded m n) (Answer.Refused r) a = a ≡ Comparison.SecondRefused r
+SameAnswers s t (Answer.Loaded m n) (Answer.Loaded o p) a = Compares s t a
 
 -- Ours: a yes or a no leaves both sets of tables as loading leaves them; a refusal leaves both all 0. By the two answers, the tables
 -- of the lengths z that the loading o fills.
@@ -53,8 +53,8 @@ left z o (Answer.Loaded m n) (Answer.Refused r) = blank z
 left z o (Answer.Loaded m n) (Answer.Loaded p q) = o .tables
 
 -- What is promised of a call with the sources s and t, tables of the lengths y and z, its answer a, and the tables x and w that it leaves.
-pub record Asked (s t : List ℕ) (y z : Lengths) (a : Comparison) (x w : Tables) : Type 0 where
-  pub answers : Answers s t (load s y .answer) (load t z .answer) a
+pub record SameAsked (s t : List ℕ) (y z : Lengths) (a : Comparison) (x w : Tables) : Type 0 where
+  pub answers : SameAnswers s t (load s y .answer) (load t z .answer) a
   pub first-left : x ≡ left y (load s y) (load s y .answer) (load t z .answer)
   pub second-left : w ≡ left z (load t z) (load s y .answer) (load t z .answer)
 

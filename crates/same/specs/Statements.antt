@@ -10,19 +10,19 @@ use Rattle.surface.specs.Loading.{load}
 use Rattle.surface.specs.SameCore.{SameCore, Accepts}
 use Rattle.surface.specs.Agreement.{Agreement}
 use Rattle.same.specs.declared.Comparison.{Comparison}
-use Rattle.same.specs.Comparison.{Parting, Compares, Asked, report-comparison, report-refused}
+use Rattle.same.specs.Comparison.{Parting, Compares, SameAsked, report-comparison, report-refused}
 
 -- Of any call whose two sources are loaded, with tables of any lengths: `Same` exactly if the two sources agree, `Different k` exactly if they
 -- part at k.
 abbrev pub AnswersExactly : Type 0
 AnswersExactly =
-    (s t : List ℕ) (y z : Lengths) (a : Comparison) (x w : Tables) → Asked s t y z a x w → Accepts (load s y) → Accepts (load t z)
+    (s t : List ℕ) (y z : Lengths) (a : Comparison) (x w : Tables) → SameAsked s t y z a x w → Accepts (load s y) → Accepts (load t z)
     → (b : Comparison) → (a ≡ b) ↔ Compares s t b
 
 -- .. and so `Same` exactly if what the two loads leave is the same core: demand 3 in the answer.
 abbrev pub SameCoreExactly : Type 0
 SameCoreExactly =
-    (s t : List ℕ) (y z : Lengths) (a : Comparison) (x w : Tables) → Asked s t y z a x w → Accepts (load s y) → Accepts (load t z)
+    (s t : List ℕ) (y z : Lengths) (a : Comparison) (x w : Tables) → SameAsked s t y z a x w → Accepts (load s y) → Accepts (load t z)
     → (a ≡ Comparison.Same) ↔ SameCore s (load s y) t (load t z)
 
 -- The number and values of an answer, by what loading the two sources answers: 0 and no value if they agree, 0 and the place where they part,
@@ -35,5 +35,5 @@ ComparingReports s t (Answer.Loaded i j) (Answer.Loaded l m) n =
 
 abbrev pub CompareReports : Type 0
 CompareReports =
-    (s t : List ℕ) (y z : Lengths) (a : Comparison) (x w : Tables) → Asked s t y z a x w
+    (s t : List ℕ) (y z : Lengths) (a : Comparison) (x w : Tables) → SameAsked s t y z a x w
     → ComparingReports s t (load s y .answer) (load t z .answer) (report-comparison a)

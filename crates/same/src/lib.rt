@@ -13,7 +13,7 @@ ghost use lib.ListN.{length};
 ghost use Rattle.tables.specs.Tables.{cleared};
 ghost use Rattle.surface.specs.Tables.{tables, lengths};
 ghost use Rattle.same.specs.inner.Contents.{Decides, words-at, atom-at, SameRow, SameRows, SameRecord, SameDeclaration, FirstDifferent, Compared};
-ghost use Rattle.same.specs.Comparison.{Asked};
+ghost use Rattle.same.specs.Comparison.{SameAsked};
 
 pub enum Comparison {
     Same,
@@ -197,7 +197,7 @@ pub fn same(
     work: &mut [u32],
 ) -> Comparison
     ensures { λ r. ⌜
-        Asked (now (first .entry)) (now (second .entry))
+        SameAsked (now (first .entry)) (now (second .entry))
         (lengths (tables (now (surface1 .entry)) (now (core1 .entry)) (now (declarations1 .entry)) (now (work .entry))))
         (lengths (tables (now (surface2 .entry)) (now (core2 .entry)) (now (declarations2 .entry)) (now (work .entry))))
         r

@@ -33,7 +33,12 @@ pub extern "C" fn sulyterom_load(
     work: &mut [u32],
     answer: &mut [u64],
 ) -> u8
-    ensures { λ r. ⌜ Told (λ a. Loads (now (source .entry)) (tables (now (surface .entry)) (now (core .entry)) (now (declarations .entry)) (now (work .entry))) a (tables (now (surface .exit)) (now (core .exit)) (now (declarations .exit)) (now (work .exit)))) report 3 (now (answer .entry)) r (now (answer .exit)) ⌝ }
+    ensures { λ r. ⌜
+        Told (λ a. Loads (now (source .entry))
+        (tables (now (surface .entry)) (now (core .entry)) (now (declarations .entry)) (now (work .entry))) a
+        (tables (now (surface .exit)) (now (core .exit)) (now (declarations .exit)) (now (work .exit)))) report 3 (now
+        (answer .entry)) r (now (answer .exit))
+        ⌝ }
 {
     let loaded = loader::load(source, surface, core, declarations, work);
     let numbers = report_loaded(loaded);

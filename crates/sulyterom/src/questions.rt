@@ -5,7 +5,7 @@ use crate::reports::tell;
 ghost use Rattle.surface.specs.Tables.{tables, lengths};
 ghost use Rattle.surface.specs.Reports.{report-dependence};
 ghost use Rattle.surface.specs.Dependence.{Asks};
-ghost use Rattle.same.specs.Comparison.{report-comparison, Asked};
+ghost use Rattle.same.specs.Comparison.{report-comparison, SameAsked};
 ghost use Rattle.sulyterom.specs.Numbers.{Told};
 
 // Whether declaration i depends on j. Answers 0 for yes and no; a yes has one value, the row, and a no has none. `answer` takes three numbers.
@@ -20,7 +20,12 @@ pub extern "C" fn sulyterom_depends(
     work: &mut [u32],
     answer: &mut [u64],
 ) -> u8
-    ensures { λ r. ⌜ Told (λ a. Asks (now (source .entry)) i j (tables (now (surface .entry)) (now (core .entry)) (now (declarations .entry)) (now (work .entry))) a (tables (now (surface .exit)) (now (core .exit)) (now (declarations .exit)) (now (work .exit)))) report-dependence 3 (now (answer .entry)) r (now (answer .exit)) ⌝ }
+    ensures { λ r. ⌜
+        Told (λ a. Asks (now (source .entry)) i j
+        (tables (now (surface .entry)) (now (core .entry)) (now (declarations .entry)) (now (work .entry))) a
+        (tables (now (surface .exit)) (now (core .exit)) (now (declarations .exit)) (now (work .exit)))) report-dependence 3
+        (now (answer .entry)) r (now (answer .exit))
+        ⌝ }
 {
     let asked = depends::depends(source, i, j, surface, core, declarations, work);
     let numbers = report_dependence(asked);
@@ -42,7 +47,14 @@ pub extern "C" fn sulyterom_same(
     work: &mut [u32],
     answer: &mut [u64],
 ) -> u8
-    ensures { λ r. ⌜ Told (λ a. Asked (now (first .entry)) (now (second .entry)) (lengths (tables (now (surface1 .entry)) (now (core1 .entry)) (now (declarations1 .entry)) (now (work .entry)))) (lengths (tables (now (surface2 .entry)) (now (core2 .entry)) (now (declarations2 .entry)) (now (work .entry)))) a (tables (now (surface1 .exit)) (now (core1 .exit)) (now (declarations1 .exit)) (now (work .exit))) (tables (now (surface2 .exit)) (now (core2 .exit)) (now (declarations2 .exit)) (now (work .exit)))) report-comparison 3 (now (answer .entry)) r (now (answer .exit)) ⌝ }
+    ensures { λ r. ⌜
+        Told (λ a. SameAsked (now (first .entry)) (now (second .entry))
+        (lengths (tables (now (surface1 .entry)) (now (core1 .entry)) (now (declarations1 .entry)) (now (work .entry))))
+        (lengths (tables (now (surface2 .entry)) (now (core2 .entry)) (now (declarations2 .entry)) (now (work .entry)))) a
+        (tables (now (surface1 .exit)) (now (core1 .exit)) (now (declarations1 .exit)) (now (work .exit)))
+        (tables (now (surface2 .exit)) (now (core2 .exit)) (now (declarations2 .exit)) (now (work .exit)))) report-comparison
+        3 (now (answer .entry)) r (now (answer .exit))
+        ⌝ }
 {
     let comparison = same::same(
         first,

@@ -21,7 +21,12 @@ pub extern "C" fn sulyterom_list(
     text: &mut [u8],
     answer: &mut [u64],
 ) -> u8
-    ensures { λ r. ⌜ Told (λ l. Lists (now (source .entry)) (tables (now (surface .entry)) (now (core .entry)) (now (declarations .entry)) (now (work .entry))) (now (text .entry)) l (tables (now (surface .exit)) (now (core .exit)) (now (declarations .exit)) (now (work .exit))) (now (text .exit))) report-listed 4 (now (answer .entry)) r (now (answer .exit)) ⌝ }
+    ensures { λ r. ⌜
+        Told (λ l. Lists (now (source .entry))
+        (tables (now (surface .entry)) (now (core .entry)) (now (declarations .entry)) (now (work .entry)))
+        (now (text .entry)) l (tables (now (surface .exit)) (now (core .exit)) (now (declarations .exit)) (now (work .exit)))
+        (now (text .exit))) report-listed 4 (now (answer .entry)) r (now (answer .exit))
+        ⌝ }
 {
     let listed = lister::list(source, surface, core, declarations, work, text);
     let numbers = report_listed(listed);

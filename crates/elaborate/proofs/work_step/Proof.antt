@@ -1,6 +1,6 @@
 -- `work_step` meets its contract.
 use native.Mathlib.Omega.{arith}
-use Rattle.elaborate.specs.declared.Step.{Step}
+use Rattle.elaborate.specs.declared.WorkStep.{WorkStep}
 use Rattle.elaborate.proofs.Steps.{as-state, top-item, top-room, top-stepped, top-fits, build-bounds, push-bound, pop-bound, build-stepped, push-stepped, pop-stepped}
 use borrow.Author.Needs.{needs}
 use Rattle.elaborate.proofs.work_step.Statement.{statement}
@@ -93,7 +93,7 @@ returns-2 c =
     let r = top-room _ _ (a .st) (p .result) e (p .ensures) (o .pre .1 .0) in
     let k = c .before .before .enter-binder in
     let x = top-fits (a .st) (p .result) (p .ensures) in
-    top-stepped (a .s .now) (a .surface .now) (a .declarations .now) (a .rows) (a .d) (a .core .now) (a .work .now) (a .st) (p .result) (p .ensures) _ (Step.Go _) (a .core .now) (k .last .0) e
+    top-stepped (a .s .now) (a .surface .now) (a .declarations .now) (a .rows) (a .d) (a .core .now) (a .work .now) (a .st) (p .result) (p .ensures) _ (WorkStep.Go _) (a .core .now) (k .last .0) e
     (as-state (a .s .now) (a .surface .now) (a .declarations .now) (a .rows) (a .d) (a .core .now) (a .work .now) (p .result) (k .ensures .0)
     (push-stepped (a .s .now) (a .surface .now) (a .declarations .now) (a .rows) (a .d) (a .core .now) (a .work .now) (p .result) _ _ (k .last .0) (omega arith) r (k .ensures .1)))
 
@@ -108,7 +108,7 @@ returns-3 c =
     let e = top-item (a .work .now) (a .st) (p .result) _ _ (o .pre .1 .1 .0) (p .ensures) (c .before .before .before .pop-work .ensures) (c .before .enum-told .given .1) in
     let r = top-room _ _ (a .st) (p .result) e (p .ensures) (o .pre .1 .0) in
     let x = top-fits (a .st) (p .result) (p .ensures) in
-    top-stepped (a .s .now) (a .surface .now) (a .declarations .now) (a .rows) (a .d) (a .core .now) (a .work .now) (a .st) (p .result) (p .ensures) _ (Step.Go _) (a .core .now) (a .work .now) e
+    top-stepped (a .s .now) (a .surface .now) (a .declarations .now) (a .rows) (a .d) (a .core .now) (a .work .now) (a .st) (p .result) (p .ensures) _ (WorkStep.Go _) (a .core .now) (a .work .now) e
     (as-state (a .s .now) (a .surface .now) (a .declarations .now) (a .rows) (a .d) (a .core .now) (a .work .now) (p .result) (c .leave-binder .ensures)
     (pop-stepped (a .s .now) (a .surface .now) (a .declarations .now) (a .rows) (a .d) (a .core .now) (a .work .now) (p .result) (omega arith) r))
 
@@ -127,7 +127,7 @@ returns-4 c =
     let r = top-room _ _ (a .st) (p .result) e (p .ensures) (o .pre .1 .0) in
     let k = c .before .before .before .before .build-term in
     let x = top-fits (a .st) (p .result) (p .ensures) in
-    top-stepped (a .s .now) (a .surface .now) (a .declarations .now) (a .rows) (a .d) (a .core .now) (a .work .now) (a .st) (p .result) (p .ensures) _ (Step.Go (k .result)) (k .last .0) (k .last .1 .0) e
+    top-stepped (a .s .now) (a .surface .now) (a .declarations .now) (a .rows) (a .d) (a .core .now) (a .work .now) (a .st) (p .result) (p .ensures) _ (WorkStep.Go (k .result)) (k .last .0) (k .last .1 .0) e
     (build-stepped (a .s .now) (a .surface .now) (a .declarations .now) (a .rows) (a .d) (a .core .now) (a .work .now) (p .result) _ _ (k .result) (k .last .0) (k .last .1 .0) (omega arith) r (k .ensures))
 
 pub work-step-spec : {M : Type 1} → statement M

@@ -1,6 +1,6 @@
 -- `parser::push_term` meets its contract.
 use mathlib.Core.Path.{_∙_, ap}
-use Rattle.parser.specs.declared.Step.{Step}
+use Rattle.parser.specs.declared.TermStep.{TermStep}
 use Rattle.parser.proofs.States.{pushed-yes, pushed-no}
 use borrow.Author.Needs.{needs}
 use Rattle.parser.proofs.push_term.Statement.{statement}
@@ -30,7 +30,7 @@ refused-nowhere-requires c κs = search needs
 returns-2 : tie.Need-returns-2
 returns-2 c =
     let y = pushed-no _ _ _ _ _ _ (c .before .if1 .left) in
-    (ap Step.Refused (c .refused-nowhere .ensures) ∙ y .0, y .1)
+    (ap TermStep.Refused (c .refused-nowhere .ensures) ∙ y .0, y .1)
 
 pub push-term-spec : {M : Type 1} → statement M
 push-term-spec =

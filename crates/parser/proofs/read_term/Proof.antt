@@ -4,8 +4,8 @@ use borrow.Author.Needs.{needs}
 use mathlib.Core.Path.{sym, _∙_, subst}
 use mathlib.Core.Bool.{false≢true}
 use Rattle.expects.specs.Formats.{edition}
-use Rattle.parser.specs.Machine.{surface, weight, Stepped}
-use Rattle.parser.specs.declared.Step.{Step}
+use Rattle.parser.specs.Machine.{surface, weight, TermStepped}
+use Rattle.parser.specs.declared.TermStep.{TermStep}
 use Rattle.parser.proofs.Loop.{ready-inside, inside-ready, Reading, start, next, finished, stopped}
 use Rattle.parser.proofs.read_term.Statement.{statement}
 use Rattle.parser.proofs.read_term.Tie as tie
@@ -61,7 +61,7 @@ loop-less c =
     let l = c .before .before .before .before .before .before .before .before .before .before .before .before in
     let o = l .before .before .before .before .before .before in
     let k = c .before .before .before .before .before .before .before .next-step in
-    let g = subst (λ (x : Step). Stepped (o .args .s .now) (surface (edition (o .args .format)) (o .args .s .now) (o .args .limit)) (l .loop .table) (l .loop .work) (l .loop .st) x (k .last .1 .0) (k .last .1 .1 .0)) (c .before .r .given .1) (k .ensures) in
+    let g = subst (λ (x : TermStep). TermStepped (o .args .s .now) (surface (edition (o .args .format)) (o .args .s .now) (o .args .limit)) (l .loop .table) (l .loop .work) (l .loop .st) x (k .last .1 .0) (k .last .1 .1 .0)) (c .before .r .given .1) (k .ensures) in
     g .less
 
 loop-again : tie.Need-loop-again Inv-loop μ-loop
@@ -69,7 +69,7 @@ loop-again c =
     let l = c .before .before .before .before .before .before .before .before .before .before .before .before in
     let o = l .before .before .before .before .before .before in
     let k = c .before .before .before .before .before .before .before .next-step in
-    let g = subst (λ (x : Step). Stepped (o .args .s .now) (surface (edition (o .args .format)) (o .args .s .now) (o .args .limit)) (l .loop .table) (l .loop .work) (l .loop .st) x (k .last .1 .0) (k .last .1 .1 .0)) (c .before .r .given .1) (k .ensures) in
+    let g = subst (λ (x : TermStep). TermStepped (o .args .s .now) (surface (edition (o .args .format)) (o .args .s .now) (o .args .limit)) (l .loop .table) (l .loop .work) (l .loop .st) x (k .last .1 .0) (k .last .1 .1 .0)) (c .before .r .given .1) (k .ensures) in
     next (o .args .s .now) (surface (edition (o .args .format)) (o .args .s .now) (o .args .limit)) (o .args .table .now) (o .args .work .now) (o .args .at) (o .args .rows) (l .loop .table) (l .loop .work) (l .loop .st) (l .loop .inv) _ _ _ g (k .kept .1 .0) (k .kept .1 .1 .0)
 
 enum-known-r-2 : tie.Need-enum-known-r-2 Inv-loop μ-loop
@@ -86,7 +86,7 @@ returns-3 c =
     λ i. let l = c .before .before .before .before .before .before .before .before .before .before .before .before in
     let o = l .before .before .before .before .before .before in
     let k = c .before .before .before .before .before .before .before .next-step in
-    let g = subst (λ (x : Step). Stepped (o .args .s .now) (surface (edition (o .args .format)) (o .args .s .now) (o .args .limit)) (l .loop .table) (l .loop .work) (l .loop .st) x (k .last .1 .0) (k .last .1 .1 .0)) (c .before .r2 .given .1) (k .ensures) in
+    let g = subst (λ (x : TermStep). TermStepped (o .args .s .now) (surface (edition (o .args .format)) (o .args .s .now) (o .args .limit)) (l .loop .table) (l .loop .work) (l .loop .st) x (k .last .1 .0) (k .last .1 .1 .0)) (c .before .r2 .given .1) (k .ensures) in
     stopped (o .args .s .now) (surface (edition (o .args .format)) (o .args .s .now) (o .args .limit)) (o .args .table .now) (o .args .work .now) (o .args .at) (o .args .rows) (l .loop .table) (l .loop .work) (l .loop .st) (l .loop .inv) _ _ g
 
 pub read-term-spec : {M : Type 1} → statement M

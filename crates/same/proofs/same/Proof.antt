@@ -1,5 +1,5 @@
 -- `same::same` meets its contract.
-use Rattle.same.proofs.Asked.{asked-first, asked-second, one-accepted, asked-both}
+use Rattle.same.proofs.SameAsked.{asked-first, asked-second, one-accepted, asked-both}
 use borrow.Author.Needs.{needs}
 use Rattle.same.proofs.same.Statement.{statement}
 use Rattle.same.proofs.same.Tie as tie

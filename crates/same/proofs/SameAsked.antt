@@ -11,7 +11,7 @@ use Rattle.surface.specs.Loading.{Lengths, Outcome, load}
 use Rattle.loader.specs.Leaving.{lengths-of, leaving}
 use Rattle.loader.proofs.Cleared.{cleared-whole}
 use Rattle.same.specs.declared.Comparison.{Comparison}
-use Rattle.same.specs.Comparison.{Compares, Answers, Tables, tables, blank, left, Asked}
+use Rattle.same.specs.Comparison.{Compares, SameAnswers, Tables, tables, blank, left, SameAsked}
 use Rattle.same.specs.inner.Contents.{Compared}
 use Rattle.same.proofs.SameModules.{CompareModules, modules-compared}
 use Rattle.same.proofs.Loaded.{load-work, load-refused, Accepted, accepted}
@@ -43,10 +43,10 @@ module _ (s t core₁ declarations₁ core₂ declarations₂ : List ℕ) (m n :
 
 -- The promise, by the answers of the two loads.
 abbrev Promise : List ℕ → List ℕ → Lengths → Lengths → Answer → Answer → Comparison → Tables → Tables → Type 0
-Promise s t y z b c a x w = Answers s t b c a × (x ≡ left y (load s y) b c) × (w ≡ left z (load t z) b c)
+Promise s t y z b c a x w = SameAnswers s t b c a × (x ≡ left y (load s y) b c) × (w ≡ left z (load t z) b c)
 
 promised : (s t : List ℕ) (y z : Lengths) (b c : Answer) (a : Comparison) (x w : Tables)
-    → load s y .answer ≡ b → load t z .answer ≡ c → Promise s t y z b c a x w → Asked s t y z a x w
+    → load s y .answer ≡ b → load t z .answer ≡ c → Promise s t y z b c a x w → SameAsked s t y z a x w
 promised s t y z b c a x w e f p =
     let q = subst₂ (λ (b c : Answer). Promise s t y z b c a x w) (sym e) (sym f) p in
     record { answers = q .0; first-left = q .1; second-left = q .2 }
@@ -78,7 +78,7 @@ module _ (s t surface₁ core₁ declarations₁ surface₂ core₂ declarations
 
     pub asked-first : (r : Refusal) → b ≡ Answer.Refused r → (surface₄ core₄ declarations₄ : List ℕ)
         → surface₄ ≡ cleared surface₂ 0 → core₄ ≡ cleared core₂ 0 → declarations₄ ≡ cleared declarations₂ 0
-        → Asked s t y z (Comparison.FirstRefused r) (tables surface₃ core₃ declarations₃ work₃) (tables surface₄ core₄ declarations₄ work₃)
+        → SameAsked s t y z (Comparison.FirstRefused r) (tables surface₃ core₃ declarations₃ work₃) (tables surface₄ core₄ declarations₄ work₃)
     asked-first r f surface₄ core₄ declarations₄ g h i =
         promised s t y z (Answer.Refused r) (load t z .answer) _ _ _ (one-answer (Answer.Refused r) f) refl (
           refl,
@@ -101,7 +101,7 @@ module _ (s t surface₁ core₁ declarations₁ surface₂ core₂ declarations
       pub asked-second : (r : Refusal) → c ≡ Answer.Refused r → (surface₅ core₅ declarations₅ : List ℕ)
           → length surface₃ ≡ length surface₁ → length core₃ ≡ length core₁ → length declarations₃ ≡ length declarations₁
           → surface₅ ≡ cleared surface₃ 0 → core₅ ≡ cleared core₃ 0 → declarations₅ ≡ cleared declarations₃ 0
-          → Asked s t y z (Comparison.SecondRefused r) (tables surface₅ core₅ declarations₅ work₄) (tables surface₄ core₄ declarations₄ work₄)
+          → SameAsked s t y z (Comparison.SecondRefused r) (tables surface₅ core₅ declarations₅ work₄) (tables surface₄ core₄ declarations₄ work₄)
       asked-second r h surface₅ core₅ declarations₅ p q o u v w =
           promised s t y z (Answer.Loaded m n) (Answer.Refused r) _ _ _ (one-answer (Answer.Loaded m n) f) (other-answer (Answer.Refused r) h) (
             refl,
@@ -113,7 +113,7 @@ module _ (s t surface₁ core₁ declarations₁ surface₂ core₂ declarations
       one-accepted = accepted s y m n surface₃ core₃ declarations₃ work₃ (ap (λ (d : Answer). leaving d surface₃ core₃ declarations₃ work₃) (sym f) ∙ e)
 
       pub asked-both : (o p : ℕ) → c ≡ Answer.Loaded o p → (a : Comparison) → Compared s core₃ declarations₃ t core₄ declarations₄ n p a
-          → Asked s t y z a (tables surface₃ core₃ declarations₃ work₄) (tables surface₄ core₄ declarations₄ work₄)
+          → SameAsked s t y z a (tables surface₃ core₃ declarations₃ work₄) (tables surface₄ core₄ declarations₄ work₄)
       asked-both o p h a q =
           let x = accepted t z o p surface₄ core₄ declarations₄ work₄ (ap (λ (d : Answer). leaving d surface₄ core₄ declarations₄ work₄) (sym h) ∙ other) in
           promised s t y z (Answer.Loaded m n) (Answer.Loaded o p) a _ _ (one-answer (Answer.Loaded m n) f) (other-answer (Answer.Loaded o p) h) (
