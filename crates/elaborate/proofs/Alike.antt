@@ -1,4 +1,4 @@
--- Resolution looks at a label's kind, and at its start and length only where the kind has a span.
+-- Resolution looks at a label's kind and offset, and at its start and length only where the kind has a span.
 use Prim.Native.Nat.{ℕ}
 use mathlib.Core.Path.{_≡_, refl, sym, _∙_, ap, ap₂}
 use mathlib.Core.List.{List, [], _∷_, _++_}
@@ -10,8 +10,9 @@ use lib.Dec.{eqb}
 use Rattle.terms.specs.Forms.{universe, pi, lam, sigma, ref, forms, form-of-kind, holds-span}
 use Rattle.terms.specs.Label.{Name, part, Label}
 use Rattle.terms.specs.Resolution.{find, Core, kept, var, global, unknown, referent, core-of, covers, locals-in, is-unknown}
-use Rattle.terms.specs.Rows.{row, span, core-words}
+use Rattle.terms.specs.Rows.{row, span, core-kind, core-fields, core-words}
 use Rattle.terms.proofs.Spans.{core-of-ref, core-of-kept}
+use Rattle.scope.specs.Scope.{reference}
 use Rattle.elaborate.proofs.Covering.{covers-none}
 
 -- Which kinds have a span: those of a reference, a universe, and what covers an argument.
@@ -31,10 +32,15 @@ span-covers k i h = go (ℕ-discrete k pi) (ℕ-discrete k sigma) (ℕ-discrete 
     go (no p) (no q) (yes r) = ap holds-span r ∙ spans .4
     go (no p) (no q) (no r) = not-both (covers k i) h (covers-none k i p q r)
 
+-- A reference is resolved by the start and length of its name.
+pub reference-core : (s : List ℕ) (locals globals : List Name) (l : Label) → l .kind ≡ ref → core-of s locals globals (reference (l .start) (l .length)) ≡ core-of s locals globals l
+reference-core s locals globals l e = core-of-ref s locals globals (reference (l .start) (l .length)) refl ∙ sym (core-of-ref s locals globals l e)
+
 -- The label l' is read from the row of the label l.
 pub record Alike (l' l : Label) : Type 0 where
   pub kind : l' .kind ≡ l .kind
   pub span : holds-span (l .kind) ≡ true → (l' .start ≡ l .start) × (l' .length ≡ l .length)
+  pub offset : l' .offset ≡ l .offset
 
 module _ (s : List ℕ) (l' l : Label) (a : Alike l' l) where
   module _ (locals globals : List Name) where
@@ -72,19 +78,29 @@ module _ (s : List ℕ) (l' l : Label) (a : Alike l' l) where
           let p = a .span (span-covers (l .kind) i e) in
           ap₂ (λ (x n : ℕ). part s x n ∷ locals) (p .0) (p .1)
 
-  pub same-words : (c : Core) (ids : List ℕ) → core-words l' c ids ≡ core-words l c ids
-  same-words kept ids = ap (λ (k : ℕ). row k (cond (eqb k universe) (span l') [] ++ ids)) (a .kind) ∙ go (ℕ-discrete (l .kind) universe)
+  -- Only a universe has its span in the core.
+  same-fields : (c : Core) (ids : List ℕ) → core-fields l' c ids ≡ core-fields l c ids
+  same-fields kept ids = ap (λ (k : ℕ). cond (eqb k universe) (span l') [] ++ ids) (a .kind) ∙ go (ℕ-discrete (l .kind) universe)
     where
-      words : Bool → Label → List ℕ
-      words b m = row (l .kind) (cond b (span m) [] ++ ids)
+      fields : Bool → Label → List ℕ
+      fields b m = cond b (span m) [] ++ ids
 
-      go : Dec (l .kind ≡ universe) → words (eqb (l .kind) universe) l' ≡ words (eqb (l .kind) universe) l
+      go : Dec (l .kind ≡ universe) → fields (eqb (l .kind) universe) l' ≡ fields (eqb (l .kind) universe) l
       go (yes e) =
           let p = a .span (ap holds-span e ∙ spans .1) in
-          ap₂ (λ (x n : ℕ). row (l .kind) (cond (eqb (l .kind) universe) (x ∷ n ∷ []) [] ++ ids)) (p .0) (p .1)
+          ap₂ (λ (x n : ℕ). cond (eqb (l .kind) universe) (x ∷ n ∷ []) [] ++ ids) (p .0) (p .1)
       go (no e) =
           let q = ne-eqb (l .kind) universe e in
-          ap (λ (b : Bool). words b l') q ∙ ap (λ (b : Bool). words b l) (sym q)
-  same-words (var i) ids = refl
-  same-words (global j) ids = refl
-  same-words unknown ids = refl
+          ap (λ (b : Bool). fields b l') q ∙ ap (λ (b : Bool). fields b l) (sym q)
+  same-fields (var i) ids = refl
+  same-fields (global j) ids = refl
+  same-fields unknown ids = refl
+
+  same-kind : (c : Core) → core-kind l' c ≡ core-kind l c
+  same-kind kept = a .kind
+  same-kind (var i) = refl
+  same-kind (global j) = refl
+  same-kind unknown = refl
+
+  pub same-words : (c : Core) (ids : List ℕ) → core-words l' c ids ≡ core-words l c ids
+  same-words c ids = λ i. row (same-kind c i) (same-fields c ids i) (a .offset i)

@@ -8,14 +8,15 @@ use lib.Dec.{eqb}
 use borrow.Author.Tests.{eq-eqb, ne-eqb}
 use native.Mathlib.Decide.{ℕ-discrete}
 use lib.ListN.{length, getD, take, drop, length-drop}
-use Rattle.terms.specs.Forms.{universe, arity-of, form-of-kind, forms}
+use Rattle.terms.specs.Forms.{universe, arity-of}
+use Rattle.terms.specs.Label.{Label}
 use Rattle.terms.specs.Resolution.{Core, is-unknown}
 use Rattle.terms.specs.Rows.{pad, row, core-words}
-use Rattle.rows.proofs.Arities.{arity-at-most-six}
-use Rattle.scope.specs.Scope.{reference}
+use Rattle.terms.proofs.FormTable.{arity-universe}
+use Rattle.terms.proofs.CoreRows.{no-children}
 use Rattle.stacks.specs.Stacks.{values-in}
 use Rattle.stacks.proofs.Decoding.{length-values}
-use Rattle.elaborate.specs.RowTerm.{six-at}
+use Rattle.elaborate.specs.RowTerm.{row-word, six-at}
 use Rattle.elaborate.specs.Machine.{RowDone, form-row, without-arguments}
 use Rattle.elaborate.specs.declared.State.{State}
 
@@ -23,16 +24,15 @@ module _ {id : ℕ} {core work : List ℕ} {st₁ : State} {core₁ work₁ : Li
   pub row-as : {st : State} {words words' : List ℕ} → words ≡ words' → RowDone id words st core work st₁ core₁ work₁ → RowDone id words' st core work st₁ core₁ work₁
   row-as {st} e r = subst (λ (l : List ℕ). RowDone id l st core work st₁ core₁ work₁) e r
 
-  pub reference-done : (a n : ℕ) (st : State) (words : List ℕ) (x c : Core) → x ≡ c → is-unknown x ≡ false → words ≡ core-words (reference a n) x []
-      → RowDone id words st core work st₁ core₁ work₁ → (is-unknown c ≡ false) × RowDone id (core-words (reference a n) c []) st core work st₁ core₁ work₁
-  reference-done a n st words x c e u w r =
-      (ap is-unknown (sym e) ∙ u, row-as (w ∙ ap (λ (y : Core). core-words (reference a n) y []) e) r)
+  pub reference-done : (l : Label) (st : State) (words : List ℕ) (x c : Core) → x ≡ c → is-unknown x ≡ false → words ≡ core-words l x []
+      → RowDone id words st core work st₁ core₁ work₁ → (is-unknown c ≡ false) × RowDone id (core-words l c []) st core work st₁ core₁ work₁
+  reference-done l st words x c e u w r = (ap is-unknown (sym e) ∙ u, row-as (w ∙ ap (λ (y : Core). core-words l y []) e) r)
 
   -- With n for the number of arguments.
-  pub form-done : (k n : ℕ) (st : State) (words : List ℕ) → n ≡ arity-of k → words ≡ form-row k st work
+  pub form-done : (surface : List ℕ) (k n : ℕ) (st : State) (words : List ℕ) → n ≡ arity-of k → words ≡ form-row surface k id st work
       → RowDone id words (record { works = st .works; values = st .values - n; locals = st .locals }) core work st₁ core₁ work₁
-      → RowDone id (form-row k st work) (without-arguments k st) core work st₁ core₁ work₁
-  form-done k n st words e w r =
+      → RowDone id (form-row surface k id st work) (without-arguments k st) core work st₁ core₁ work₁
+  form-done surface k n st words e w r =
       row-as w
       (subst (λ (m : ℕ). RowDone id words (record { works = st .works; values = st .values - m; locals = st .locals }) core work st₁ core₁ work₁) e r)
 
@@ -54,44 +54,29 @@ six-words (a ∷ b ∷ c ∷ d ∷ e ∷ []) h = absurd (omega arith)
 six-words (a ∷ b ∷ c ∷ d ∷ e ∷ f ∷ []) h = refl
 six-words (a ∷ b ∷ c ∷ d ∷ e ∷ f ∷ g ∷ l) h = absurd (omega arith)
 
-pad-more : (n : ℕ) (l : List ℕ) → length l ≤ n → pad n l ++ (0 ∷ []) ≡ pad (suc n) l
-pad-more zero [] h = refl
-pad-more zero (x ∷ l) h = absurd (omega arith)
-pad-more (suc n) [] h = ap (λ (r : List ℕ). 0 ∷ r) (pad-more n [] (omega arith))
-pad-more (suc n) (x ∷ l) h = ap (λ (r : List ℕ). x ∷ r) (pad-more n l (omega arith))
-
-arity-universe : arity-of universe ≡ 0
-unfolding arity-of form-of-kind forms
-arity-universe = refl
-
-empty : (l : List ℕ) → length l ≡ 0 → l ≡ []
-empty [] e = refl
-empty (x ∷ l) e = absurd (omega arith)
-
 -- A form's row, without a choice for each word: only a universe has a span, and no arguments.
-words-of-form : (k : ℕ) (l : List ℕ) → length l ≡ arity-of k → k ∷ pad 6 l ++ (0 ∷ []) ≡ row k (cond (eqb k universe) (0 ∷ 0 ∷ []) [] ++ l)
-words-of-form k l n = go (ℕ-discrete k universe)
+words-of-form : (k : ℕ) (l : List ℕ) (offset : ℕ) → length l ≡ arity-of k → k ∷ pad 6 l ++ (offset ∷ []) ≡ row k (cond (eqb k universe) (0 ∷ 0 ∷ []) [] ++ l) offset
+words-of-form k l offset n = go (ℕ-discrete k universe)
   where
-    go : Dec (k ≡ universe) → k ∷ pad 6 l ++ (0 ∷ []) ≡ row k (cond (eqb k universe) (0 ∷ 0 ∷ []) [] ++ l)
+    go : Dec (k ≡ universe) → k ∷ pad 6 l ++ (offset ∷ []) ≡ row k (cond (eqb k universe) (0 ∷ 0 ∷ []) [] ++ l) offset
     go (yes e) =
-        let none : l ≡ [] = empty l (n ∙ ap arity-of e ∙ arity-universe) in
-        ap (λ (x : List ℕ). k ∷ pad 6 x ++ (0 ∷ [])) none
-        ∙ (λ i. row k (cond (sym (eq-eqb k universe e) i) (0 ∷ 0 ∷ []) [] ++ sym none i))
-    go (no e) =
-        ap (λ (r : List ℕ). k ∷ r) (pad-more 6 l (omega (arith, arity-at-most-six k)))
-        ∙ ap (λ (b : Bool). row k (cond b (0 ∷ 0 ∷ []) [] ++ l)) (sym (ne-eqb k universe e))
+        let none : l ≡ [] = no-children l (n ∙ ap arity-of e ∙ arity-universe) in
+        ap (λ (x : List ℕ). row k x offset) none
+        ∙ (λ i. row k (cond (sym (eq-eqb k universe e) i) (0 ∷ 0 ∷ []) [] ++ sym none i) offset)
+    go (no e) = ap (λ (b : Bool). row k (cond b (0 ∷ 0 ∷ []) [] ++ l) offset) (sym (ne-eqb k universe e))
 
 -- The values on top are the arguments' rows.
-pub built-row : (work : List ℕ) (st : State) (k n : ℕ) (values : List ℕ) → n ≡ arity-of k → n ≤ st .values
-    → values ≡ pad 6 (drop (st .values - n) (values-in work (st .values - n + n)))
-    → k ∷ values ++ (0 ∷ []) ≡ form-row k st work
-built-row work st k n values e h q =
+pub built-row : (surface work : List ℕ) (st : State) (k id n : ℕ) (values : List ℕ) (offset : ℕ) → n ≡ arity-of k → n ≤ st .values
+    → values ≡ pad 6 (drop (st .values - n) (values-in work (st .values - n + n))) → offset ≡ row-word surface id 7
+    → k ∷ values ++ (offset ∷ []) ≡ form-row surface k id st work
+built-row surface work st k id n values offset e h q o =
     let v = st .values in
     let l = drop (v - n) (values-in work v) in
     let long : length l ≡ arity-of k = omega (arith, e, length-drop (v - n) (values-in work v), length-values work v) in
-    ap (λ (x : List ℕ). k ∷ x ++ (0 ∷ [])) (q ∙ ap (λ (m : ℕ). pad 6 (drop (v - n) (values-in work m))) (let back : v - n + n ≡ v = omega arith in back))
-    ∙ words-of-form k l long
-    ∙ ap (λ (m : ℕ). row k (cond (eqb k universe) (0 ∷ 0 ∷ []) [] ++ drop (v - m) (values-in work v))) e
+    (λ i. k ∷ q i ++ (o i ∷ []))
+    ∙ ap (λ (m : ℕ). k ∷ pad 6 (drop (v - n) (values-in work m)) ++ (row-word surface id 7 ∷ [])) (let back : v - n + n ≡ v = omega arith in back)
+    ∙ words-of-form k l (row-word surface id 7) long
+    ∙ ap (λ (m : ℕ). row k (cond (eqb k universe) (0 ∷ 0 ∷ []) [] ++ drop (v - m) (values-in work v)) (row-word surface id 7)) e
 
 pub length-six : (t : List ℕ) (id : ℕ) (span : Bool) → length (six-at t id span) ≡ 6
 unfolding six-at

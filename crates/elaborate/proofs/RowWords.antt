@@ -13,7 +13,7 @@ use lib.Seq.{getD-take, getD-drop}
 use Rattle.terms.specs.Forms.{forms, form-of-kind, arity-of, holds-span}
 use Rattle.terms.specs.Label.{Label}
 use Rattle.terms.specs.Rows.{pad, span, surface-row}
-use Rattle.terms.proofs.Tables.{getD-pad}
+use Rattle.terms.proofs.RowFields.{row-field, row-offset}
 use Rattle.rows.proofs.Arities.{value-at, no-arity, arity-at-most-six}
 use Rattle.rows.proofs.Words.{pad-words}
 use Rattle.elaborate.specs.RowTerm.{row-word, label-at, six-at, children-at}
@@ -47,17 +47,21 @@ module _ (t : List ℕ) (id : ℕ) (l : Label) (ids : List ℕ) (e : place 8 t i
   abbrev fields : Bool → List ℕ
   fields b = cond b (span l) [] ++ ids
 
-  word : (b : Bool) → holds-span (l .kind) ≡ b → (j : ℕ) → j < 7 → row-word t id (suc j) ≡ getD (fields b) j 0
+  word : (b : Bool) → holds-span (l .kind) ≡ b → (j : ℕ) → j < 6 → row-word t id (suc j) ≡ getD (fields b) j 0
   word b q j h =
       word-of 8 t id _ e (suc j) (omega arith)
-      ∙ ap (λ (x : Bool). getD (pad 7 (fields x)) j 0) q
-      ∙ getD-pad 7 (fields b) j h
+      ∙ row-field (l .kind) (fields (holds-span (l .kind))) (l .offset) j h
+      ∙ ap (λ (x : Bool). getD (fields x) j 0) q
 
   pub row-kind : getD t (id * 8) 0 ≡ l .kind
   row-kind = first-word-of 8 t id _ e (omega arith)
 
   pub row-alike : Alike (label-at t id) l
-  row-alike = record { kind = row-kind; span = λ q. (word true q 0 (omega arith), word true q 1 (omega arith)) }
+  row-alike = record {
+    kind = row-kind;
+    span = λ q. (word true q 0 (omega arith), word true q 1 (omega arith));
+    offset = word-of 8 t id _ e 7 (omega arith) ∙ row-offset (l .kind) (fields (holds-span (l .kind))) (l .offset);
+  }
 
   small : arity-of (l .kind) ≤ 6
   small = arity-at-most-six (l .kind)

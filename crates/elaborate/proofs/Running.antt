@@ -33,10 +33,13 @@ seq-done (done c) f h g e = e c
 seq-done (unknown-at a n) f h g e = refl
 
 -- A form's row has no span.
-form-words : (l : Label) (ids : List ℕ) → (arity-of (l .kind) ≡ 0 → ⊥) → core-words l kept ids ≡ core-words (form-label (l .kind)) kept ids
-form-words l ids h =
+form-words : (surface : List ℕ) (id : ℕ) (ids : List ℕ) → (arity-of (getD surface (id * 8) 0) ≡ 0 → ⊥)
+    → core-words (label-at surface id) kept ids ≡ core-words (form-label surface (getD surface (id * 8) 0) id) kept ids
+form-words surface id ids h =
+    let l = label-at surface id in
     let e : eqb (l .kind) universe ≡ false = ne-eqb (l .kind) universe (λ q. h (ap arity-of q ∙ arity-universe)) in
-    ap (λ (b : Bool). row (l .kind) (cond b (span l) [] ++ ids)) e ∙ ap (λ (b : Bool). row (l .kind) (cond b (span (form-label (l .kind))) [] ++ ids)) (sym e)
+    ap (λ (b : Bool). row (l .kind) (cond b (span l) [] ++ ids) (l .offset)) e
+    ∙ ap (λ (b : Bool). row (l .kind) (cond b (span (form-label surface (l .kind) id)) [] ++ ids) (l .offset)) (sym e)
 
 pub length-children : (surface : List ℕ) (id : ℕ) → length (children-at surface id) ≡ arity-of (getD surface (id * 8) 0)
 length-children surface id =
@@ -94,11 +97,11 @@ module _ (s surface declarations : List ℕ) (rows d : ℕ) where
         let at = core-at s surface declarations rows d id locals in
         let kept-at : at ≡ kept = core-of-kept s locals _ l (λ e. z (ap arity-of e ∙ arity-ref)) in
         let n : length (values ++ ids) - arity-of k ≡ length values = omega (arith, length-append values ids, length-children surface id) in
-        let words : core-words l at ids ≡ core-words (form-label k) kept ids = ap (λ (x : Core). core-words l x ids) kept-at ∙ form-words l ids z in
+        let words : core-words l at ids ≡ core-words (form-label surface k id) kept ids = ap (λ (x : Core). core-words l x ids) kept-at ∙ form-words surface id ids z in
         ap (λ (o : TermOutcome). and-then o (λ x. runs works locals (values ++ (id ∷ [])) x))
         (row-visit s surface declarations rows d (suc left) id locals core ∙ visit-known s surface declarations rows d (R left) id locals core h (ap is-unknown kept-at))
         ∙ seq-done (arguments (R left) (locals-in s l locals) ids core) (λ c. runs (Work.Build k id ∷ works) locals (values ++ ids) c) _ _
         (λ c. ap₂ (λ (v w : List ℕ). runs works locals (v ++ (id ∷ [])) (stored-at 8 c id w))
         (sym (ap (λ (x : ℕ). take x (values ++ ids)) n ∙ take-at values ids (length values) refl))
-        (words ∙ ap (core-words (form-label k) kept) (sym (ap (λ (x : ℕ). drop x (values ++ ids)) n ∙ drop-at values ids (length values) refl))))
+        (words ∙ ap (core-words (form-label surface k id) kept) (sym (ap (λ (x : ℕ). drop x (values ++ ids)) n ∙ drop-at values ids (length values) refl))))
         ∙ sym (run-scheduled l left 0 ids (Work.Build k id ∷ works) locals values core (locals-in s l locals) (λ j. ap (locals-in s l locals) (let q : 0 + j ≡ j = omega arith in q)))

@@ -7,13 +7,13 @@ use borrow.Author.Tests.{lt-ltb, le-ltb}
 use lib.ListN.{length, getD, take, drop}
 use Rattle.terms.specs.Forms.{ref, arity-of}
 use Rattle.terms.specs.Label.{Name}
-use Rattle.terms.specs.Resolution.{Core, kept, core-of, locals-in, is-unknown}
+use Rattle.terms.specs.Resolution.{Core, kept, locals-in, is-unknown}
 use Rattle.terms.specs.Rows.{core-words}
 use Rattle.terms.proofs.Spans.{core-of-kept}
 use Rattle.terms.proofs.FormTable.{arity-ref}
 use Rattle.rows.specs.Places.{stored-at}
 use Rattle.rows.proofs.Arities.{arity-at-most-six}
-use Rattle.scope.specs.Scope.{local-names, declared-names, reference}
+use Rattle.scope.specs.Scope.{local-names, declared-names}
 use Rattle.stacks.specs.Stacks.{works-in, values-in, WorkPushed, LocalPushed}
 use Rattle.stacks.specs.declared.Work.{Work}
 use Rattle.stacks.proofs.Decoding.{length-works, length-values, values-below}
@@ -114,20 +114,15 @@ module _ (s surface declarations : List ℕ) (rows d : ℕ) (core work : List �
       size = row-word surface id 2
 
       pub reference-stepped : (step : WorkStep) (core₁ work₁ : List ℕ) → k ≡ ref
-          → ReferenceDone (core-of s locals (declared-names s declarations 0 d) (reference start size)) start size id st core work step core₁ work₁
+          → ReferenceDone (core-at s surface declarations rows d id locals) (label-at surface id) id st core work step core₁ work₁
           → WorkStepped s surface declarations rows d (Work.Eval id left ∷ works) work st core step core₁ work₁
       reference-stepped (WorkStep.Go st₁) core₁ work₁ e h =
-          let l : label-at surface id ≡ reference start size = λ i. record { kind = e i; start = start; length = size; offset = 0 } in
-          let c = ap (core-of s locals (declared-names s declarations 0 d)) l in
           finished _ st₁ core₁ work₁
-          (visits ∙ visit-leaf s surface declarations rows d Q id locals core (lt-ltb id rows there) (ap is-unknown c ∙ h .0) (ap arity-of e ∙ arity-ref)
-          ∙ (λ i. done (stored-at 8 core id (core-words (l i) (c i) []))))
+          (visits ∙ visit-leaf s surface declarations rows d Q id locals core (lt-ltb id rows there) (h .0) (ap arity-of e ∙ arity-ref))
           (h .1)
       reference-stepped (WorkStep.Unknown a n) core₁ work₁ e h =
-          let l : label-at surface id ≡ reference start size = λ i. record { kind = e i; start = start; length = size; offset = 0 } in
-          let c = ap (core-of s locals (declared-names s declarations 0 d)) l in
           stops a n
-          (visits ∙ visit-unknown s surface declarations rows d Q id locals core (lt-ltb id rows there) (ap is-unknown c ∙ h .0)
+          (visits ∙ visit-unknown s surface declarations rows d Q id locals core (lt-ltb id rows there) (h .0)
           ∙ ap₂ unknown-at (sym (h .1)) (sym (h .2)))
 
       -- A term that is kept.
@@ -184,7 +179,7 @@ module _ (s surface declarations : List ℕ) (rows d : ℕ) (core work : List �
 
   -- The other items.
   pub build-stepped : (k id : ℕ) (st₁ : State) (core₁ work₁ : List ℕ) → st .works ≤ 3754 → Room (Work.Build k id ∷ works) (st .values) (st .locals)
-      → RowDone id (form-row k st work) (without-arguments k st) core work st₁ core₁ work₁ → W (Work.Build k id ∷ works) st₁ core₁ work₁
+      → RowDone id (form-row surface k id st work) (without-arguments k st) core work st₁ core₁ work₁ → W (Work.Build k id ∷ works) st₁ core₁ work₁
   unfolding run Room weight
   build-stepped k id st₁ core₁ work₁ fits r h =
       let p = h .value in
@@ -196,8 +191,8 @@ module _ (s surface declarations : List ℕ) (rows d : ℕ) (core work : List �
       let u : take (length values - arity-of k) values ++ (id ∷ []) ≡ values-in work₁ (b + 1) =
       ap (λ (m : ℕ). take m values ++ (id ∷ [])) n
       ∙ ap (λ (l : List ℕ). l ++ (id ∷ [])) (ap (λ (m : ℕ). take b (values-in work m)) back ∙ values-below work b (arity-of k)) ∙ sym (p .values) in
-      let c : stored-at 8 core id (core-words (form-label k) kept (drop (length values - arity-of k) values)) ≡ core₁ =
-      ap (λ (m : ℕ). stored-at 8 core id (core-words (form-label k) kept (drop m values))) n ∙ sym (h .row) in
+      let c : stored-at 8 core id (core-words (form-label surface k id) kept (drop (length values - arity-of k) values)) ≡ core₁ =
+      ap (λ (m : ℕ). stored-at 8 core id (core-words (form-label surface k id) kept (drop m values))) n ∙ sym (h .row) in
       subst (λ (z : State). W (Work.Build k id ∷ works) z core₁ work₁) (sym (h .state)) (record {
         same = λ i. run s surface declarations rows d (sym x i) (sym y i) (u i) (c i);
         less = omega (arith, ap weight x);

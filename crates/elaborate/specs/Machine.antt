@@ -10,7 +10,7 @@ use Rattle.terms.specs.Label.{Name, part, Label}
 use Rattle.terms.specs.Resolution.{Core, kept, covers, is-unknown}
 use Rattle.terms.specs.Rows.{core-words}
 use Rattle.rows.specs.Places.{stored-at}
-use Rattle.scope.specs.Scope.{local-names, reference}
+use Rattle.scope.specs.Scope.{local-names}
 use Rattle.scope.specs.Index.{Indexed}
 use Rattle.stacks.specs.Stacks.{works-in, values-in, WorkArea, WorkPushed, ValuePushed}
 use Rattle.stacks.specs.declared.Work.{Work}
@@ -19,8 +19,9 @@ use Rattle.elaborate.specs.declared.State.{State}
 use Rattle.elaborate.specs.declared.WorkStep.{WorkStep}
 use Rattle.elaborate.specs.declared.TermDone.{TermDone}
 
-abbrev pub form-label : ℕ → Label
-form-label k = record { kind = k; start = 0; length = 0; offset = 0 }
+-- What is kept of the form of kind k at row `id`, in whose core row there is no span.
+abbrev pub form-label : List ℕ → ℕ → ℕ → Label
+form-label surface k id = record { kind = k; start = 0; length = 0; offset = row-word surface id 7 }
 
 abbrev pub Six : List ℕ → Type 0
 Six l = length l ≡ 6
@@ -50,7 +51,7 @@ module _ (s surface declarations : List ℕ) (rows d : ℕ) where
   run (Work.PopLocal ∷ works) locals values core = run works (outer locals) values core
   run (Work.Build k id ∷ works) locals values core =
       run works locals (take (length values - arity-of k) values ++ (id ∷ []))
-      (stored-at 8 core id (core-words (form-label k) kept (drop (length values - arity-of k) values)))
+      (stored-at 8 core id (core-words (form-label surface k id) kept (drop (length values - arity-of k) values)))
 
 -- There is room for what is to come, with v values and l names: at most 7 work items, 5 values and a name for each of the 512 forms that may be
 -- opened, and 7 * 512 is 3,584, 5 * 512 is 2,560.
@@ -92,18 +93,18 @@ pub record RowDone (id : ℕ) (words : List ℕ) (st : State) (core work : List 
   pub value : ValuePushed work work₁ (st .values) id
   pub state : st₁ ≡ record { works = st .works; values = st .values + 1; locals = st .locals }
 
--- A reference to c, by the start and length of its name: its row is stored, or it is unknown.
-abbrev pub ReferenceDone : Core → ℕ → ℕ → ℕ → State → List ℕ → List ℕ → WorkStep → List ℕ → List ℕ → Type 0
-ReferenceDone c a n id st core work (WorkStep.Go st₁) core₁ work₁ = (is-unknown c ≡ false) × RowDone id (core-words (reference a n) c []) st core work st₁ core₁ work₁
-ReferenceDone c a n id st core work (WorkStep.Unknown x y) core₁ work₁ = (is-unknown c ≡ true) × (x ≡ a) × (y ≡ n)
+-- A reference to c: its row is stored, or it is unknown.
+abbrev pub ReferenceDone : Core → Label → ℕ → State → List ℕ → List ℕ → WorkStep → List ℕ → List ℕ → Type 0
+ReferenceDone c l id st core work (WorkStep.Go st₁) core₁ work₁ = (is-unknown c ≡ false) × RowDone id (core-words l c []) st core work st₁ core₁ work₁
+ReferenceDone c l id st core work (WorkStep.Unknown a n) core₁ work₁ = (is-unknown c ≡ true) × (a ≡ l .start) × (n ≡ l .length)
 
 -- The state without the values of a form's arguments.
 abbrev pub without-arguments : ℕ → State → State
 without-arguments k st = record { works = st .works; values = st .values - arity-of k; locals = st .locals }
 
 -- The row of a form whose arguments are the values on top.
-abbrev pub form-row : ℕ → State → List ℕ → List ℕ
-form-row k st work = core-words (form-label k) kept (drop (st .values - arity-of k) (values-in work (st .values)))
+abbrev pub form-row : List ℕ → ℕ → ℕ → State → List ℕ → List ℕ
+form-row surface k id st work = core-words (form-label surface k id) kept (drop (st .values - arity-of k) (values-in work (st .values)))
 
 module _ (s surface declarations : List ℕ) (rows d : ℕ) where
   -- What a state comes to whose work items are `works`.

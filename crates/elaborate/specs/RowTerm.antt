@@ -18,7 +18,7 @@ row-word t id j = getD t (id * 8 + j) 0
 
 -- What a row says of its term. Where the kind has no span, nothing looks at the start and the length.
 abbrev pub label-at : List ℕ → ℕ → Label
-label-at t id = record { kind = getD t (id * 8) 0; start = row-word t id 1; length = row-word t id 2; offset = 0 }
+label-at t id = record { kind = getD t (id * 8) 0; start = row-word t id 1; length = row-word t id 2; offset = row-word t id 7 }
 
 -- The six words that can hold children: behind a span there are at most two.
 unfoldable pub six-at : List ℕ → ℕ → Bool → List ℕ

@@ -4,19 +4,20 @@ ghost use mathlib.Core.Path.{_≡_};
 ghost use mathlib.Core.List.{List, [], _∷_, _++_};
 ghost use Prim.Native.Nat.{_+_, _-_, _*_, _<_, _≤_};
 ghost use lib.ListN.{length, take};
-ghost use Rattle.terms.specs.Forms.{arity-of};
+ghost use Rattle.terms.specs.Forms.{ref, arity-of};
 ghost use Rattle.terms.specs.Label.{Declaration};
 ghost use Rattle.terms.specs.Resolution.{covers, core-of};
-ghost use Rattle.scope.specs.Scope.{local-names, declared-names, reference};
+ghost use Rattle.scope.specs.Scope.{local-names, declared-names};
 ghost use Rattle.scope.specs.Index.{Indexed};
 ghost use Rattle.stacks.specs.Stacks.{names-room, values-room, works-room, works-in, WorkArea, WorkPushed, LocalPushed};
-ghost use Rattle.elaborate.specs.RowTerm.{six-at, row-term};
+ghost use Rattle.elaborate.specs.RowTerm.{label-at, six-at, row-term};
 ghost use Rattle.elaborate.specs.Machine.{Six, scheduled-one, scheduled, FormScheduled, Room, RowsInside, RowDone, ReferenceDone, without-arguments, form-row, WorkStepped, Answered};
 ghost use Rattle.elaborate.specs.Loadable.{Loadable, Elaborates};
 ghost use Rattle.elaborate.specs.Declarations.{Fitting, Whether, Blank, record-outcome, declaration-outcome, Declared};
 use scope::Referent;
 use scope::Slot;
 use stacks::Work;
+use terms::Label;
 
 // The kinds that resolution tells apart: a reference among terms, a postulate among declarations.
 const REF: u32 = 24;
@@ -86,6 +87,20 @@ fn covers(kind: u32, i: usize) -> bool
         4 | 7 => i == 1,
         5 => i == 0,
         _ => false,
+    }
+}
+
+// What a surface row says of its term.
+fn label_at(surface: &[u32], id: usize) -> Label
+    requires { ⌜ id * 8 + 8 ≤ length (now surface) ⌝ }
+    ensures { λ r. ⌜ r ≡ label-at (now (surface .entry)) id ⌝ }
+{
+    let a = id * ROW;
+    Label {
+        kind: surface[a],
+        start: surface[a + 1],
+        length: surface[a + 2],
+        offset: surface[a + 7],
     }
 }
 
@@ -217,35 +232,37 @@ fn eval_reference(
     st: State,
     id: u32,
     d: usize,
-    start: u32,
-    length: u32,
+    label: Label,
 ) -> WorkStep
     requires { ⌜ (st .locals ≤ names-room) × (st .values < values-room) × (d ≤ 4294967295) × WorkArea (now work) × Indexed (now s) (now declarations) d (now index) ⌝ }
+    requires { ⌜ label .kind ≡ ref ⌝ }
     ensures { λ r. ⌜
         ReferenceDone (core-of (now (s .entry)) (local-names (now (s .entry)) (now (work .entry)) (st .locals))
-        (declared-names (now (s .entry)) (now (declarations .entry)) 0 d) (reference start length)) start length id st (now
+        (declared-names (now (s .entry)) (now (declarations .entry)) 0 d) label) label id st (now
         (core .entry)) (now (work .entry)) r (now (core .exit)) (now (work .exit))
         ⌝ }
 {
     let l = st.locals;
+    let start = label.start;
+    let length = label.length;
     let r = scope::find_name(s, work, declarations, index, l, d, start, length);
     match r {
         Referent::Var(count) => {
-            let row = rows::reference_row(1, count);
+            let row = rows::reference_row(1, count, label.offset);
             WorkStep::Go(finish(core, work, st, id, row))
         }
         Referent::Global(place) => {
-            let row = rows::reference_row(2, place);
+            let row = rows::reference_row(2, place, label.offset);
             WorkStep::Go(finish(core, work, st, id, row))
         }
         Referent::Unknown => WorkStep::Unknown { start, length },
     }
 }
 
-// The row of a form with arguments, of which those that are not there are 0.
-fn form_row(kind: u32, args: [u32; 6]) -> [u32; 8]
+// The row of a form at an offset, with arguments of which those that are not there are 0.
+fn form_row(kind: u32, args: [u32; 6], offset: u32) -> [u32; 8]
     requires { ⌜ Six args ⌝ }
-    ensures { λ r. ⌜ r ≡ kind ∷ args ++ (0 ∷ []) ⌝ }
+    ensures { λ r. ⌜ r ≡ kind ∷ args ++ (offset ∷ []) ⌝ }
 {
     [
         kind,
@@ -255,21 +272,31 @@ fn form_row(kind: u32, args: [u32; 6]) -> [u32; 8]
         args[3],
         args[4],
         args[5],
-        0,
+        offset,
     ]
 }
 
 // The row of a form whose arguments' rows are the values on top.
-fn build_term(core: &mut [u32], work: &mut [u32], st: State, kind: u32, id: u32) -> State
+fn build_term(
+    surface: &[u32],
+    core: &mut [u32],
+    work: &mut [u32],
+    st: State,
+    kind: u32,
+    id: u32,
+) -> State
     requires { ⌜ (arity-of kind ≤ st .values) × (st .values ≤ arity-of kind + 2560) × WorkArea (now work) ⌝ }
-    ensures { λ r. ⌜ RowDone id (form-row kind st (now (work .entry))) (without-arguments kind st) (now (core .entry)) (now (work .entry)) r (now (core .exit)) (now (work .exit)) ⌝ }
+    ensures { λ r. ⌜
+        RowDone id (form-row (now (surface .entry)) kind id st (now (work .entry))) (without-arguments kind st) (now (core .entry)) (now (work .entry)) r (now (core .exit)) (now (work .exit))
+        ⌝ }
 {
     let t = st.works;
     let l = st.locals;
     let n = rows::arity(kind);
     let v = st.values - n as usize;
     let values = stacks::pop_values(work, v, n as usize);
-    let row = form_row(kind, values);
+    let offset = rows::row_offset(surface, id);
+    let row = form_row(kind, values, offset);
     let below = State {
         works: t,
         values: v,
@@ -300,14 +327,13 @@ fn eval(
     if rows <= k {
         return nameless();
     }
-    let kind = surface[k * ROW];
-    let start = surface[k * ROW + 1];
-    let length = surface[k * ROW + 2];
+    let label = label_at(surface, k);
+    let kind = label.kind;
     if kind == REF {
-        return eval_reference(s, declarations, core, work, index, st, id, d, start, length);
+        return eval_reference(s, declarations, core, work, index, st, id, d, label);
     }
     if rows::arity(kind) == 0 {
-        let row = rows::core_row(kind, start, length, [0, 0, 0, 0, 0, 0], 0);
+        let row = rows::core_row(label, [0, 0, 0, 0, 0, 0], 0);
         return WorkStep::Go(finish(core, work, st, id, row));
     }
     if left == 0 {
@@ -392,7 +418,14 @@ fn work_step(
         ),
         Work::PushLocal { start, length } => WorkStep::Go(enter_binder(work, below, start, length)),
         Work::PopLocal => WorkStep::Go(leave_binder(below)),
-        Work::Build { kind, row } => WorkStep::Go(build_term(core, work, below, kind, row)),
+        Work::Build { kind, row } => WorkStep::Go(build_term(
+            surface,
+            core,
+            work,
+            below,
+            kind,
+            row,
+        )),
     }
 }
 

@@ -3,3 +3,4 @@ mod KindWords
 mod Rows
 mod Example
 pub mod Lengths
+pub mod Unprinted

@@ -48,7 +48,7 @@ row-level r = cond (eqb (getD r 0 0) universe) (getD r 2 0) 0
 words-level : (l : Label) (c : Core) (children : List ℕ) → row-level (core-words l c children) ≤ l .length
 words-level l kept children = by (eqb (l .kind) universe)
   where
-    by : (t : Bool) → cond t (getD (row (l .kind) (cond t (span l) [] ++ children)) 2 0) 0 ≤ l .length
+    by : (t : Bool) → cond t (getD (row (l .kind) (cond t (span l) [] ++ children) (l .offset)) 2 0) 0 ≤ l .length
     by true = omega arith
     by false = omega arith
 words-level l (var i) children = omega arith

@@ -4,18 +4,9 @@ use native.Mathlib.Omega.{arith}
 use mathlib.Core.Path.{_≡_, refl, sym, ap, ap₂, _∙_}
 use mathlib.Core.Bool.{Bool, true, false, cond}
 use mathlib.Core.List.{List, [], _∷_, _++_}
-use lib.ListN.{length, getD, take, List·getD-eq-default}
+use lib.ListN.{length, getD, take}
 use lib.Seq.{take-all}
 use Rattle.terms.specs.Rows.{pad, row}
-
-pub length-pad : (n : ℕ) (l : List ℕ) → length (pad n l) ≡ n
-length-pad zero l = refl
-length-pad (suc n) [] = ap suc (length-pad n [])
-length-pad (suc n) (x ∷ l) = ap suc (length-pad n l)
-
--- Every row has eight words.
-pub length-row : (k : ℕ) (l : List ℕ) → length (row k l) ≡ 8
-length-row k l = ap suc (length-pad 7 l)
 
 -- n words of a list from word i on, each 0 where there is none.
 abbrev pub words-from : ℕ → ℕ → List ℕ → List ℕ
@@ -57,15 +48,13 @@ module _ (l : List ℕ) (h : length l ≡ 6) (n : ℕ) where
   pub all-words : 6 ≤ n → l ≡ pad 6 (take n l)
   all-words k = six l h ∙ sym (ap (pad 6) (take-all n l (omega arith) ∙ six l h))
 
-module _ (k start n : ℕ) (l : List ℕ) where
+-- A row by its words.
+module _ (k start n : ℕ) (l : List ℕ) (offset : ℕ) where
   abbrev fields : Bool → List ℕ
-  fields b = row k (cond b (start ∷ n ∷ []) [] ++ l)
+  fields b = row k (cond b (start ∷ n ∷ []) [] ++ l) offset
 
-  pub row-with-span : (b : Bool) → b ≡ true → fields b ≡ k ∷ start ∷ n ∷ words-from 0 5 l
-  row-with-span b e = ap fields e ∙ ap (λ (w : List ℕ). k ∷ start ∷ n ∷ w) (pad-words 5 l)
+  pub row-with-span : (b : Bool) → b ≡ true → fields b ≡ k ∷ start ∷ n ∷ words-from 0 4 l ++ (offset ∷ [])
+  row-with-span b e = ap fields e ∙ ap (λ (w : List ℕ). k ∷ start ∷ n ∷ w ++ (offset ∷ [])) (pad-words 4 l)
 
-  -- Six arguments leave the last word 0.
-  pub row-without-span : (b : Bool) → b ≡ false → length l ≤ 6 → fields b ≡ k ∷ words-from 0 6 l ++ (0 ∷ [])
-  row-without-span b e h =
-      ap fields e ∙ ap (λ (w : List ℕ). k ∷ w) (pad-words 7 l)
-      ∙ ap (λ (x : ℕ). k ∷ words-from 0 6 l ++ (x ∷ [])) (List·getD-eq-default l 0 h)
+  pub row-without-span : (b : Bool) → b ≡ false → fields b ≡ k ∷ words-from 0 6 l ++ (offset ∷ [])
+  row-without-span b e = ap fields e ∙ ap (λ (w : List ℕ). k ∷ w ++ (offset ∷ [])) (pad-words 6 l)

@@ -6,11 +6,12 @@ use terms::Label;
 ghost use mathlib.Core.Path.{_≡_};
 ghost use mathlib.Core.Bool.{cond};
 ghost use mathlib.Core.List.{[], _∷_, _++_};
-ghost use lib.Dec.{eqb};
-ghost use lib.ListN.{take};
-ghost use Rattle.terms.specs.Forms.{universe, arity-of, holds-span};
+ghost use Prim.Native.Nat.{_+_, _*_};
+ghost use lib.ListN.{getD, take};
+ghost use Rattle.terms.specs.Forms.{arity-of, holds-span};
 ghost use Rattle.terms.specs.Label.{part};
-ghost use Rattle.terms.specs.Rows.{pad, row, surface-row};
+ghost use Rattle.terms.specs.Resolution.{kept};
+ghost use Rattle.terms.specs.Rows.{pad, row, surface-row, core-words};
 ghost use Rattle.rows.specs.Places.{has-place, stored-at};
 ghost use Rattle.rows.specs.DeclarationRows.{row-behind, first-row};
 
@@ -57,36 +58,47 @@ fn first_args(args: [u32; 6], len: u32) -> [u32; 6]
     }
 }
 
-// The kind, the span if the row has one, and the first len arguments.
-fn row_words(kind: u32, span: bool, start: u32, length: u32, args: [u32; 6], len: u32) -> [u32; 8]
-    ensures { λ r. ⌜ r ≡ row kind (cond span (start ∷ length ∷ []) [] ++ take len args) ⌝ }
+// The label's kind, its span if the row has one, the first len arguments, and the label's offset.
+fn row_words(label: Label, span: bool, args: [u32; 6], len: u32) -> [u32; 8]
+    ensures { λ r. ⌜ r ≡ row (label .kind) (cond span (label .start ∷ label .length ∷ []) [] ++ take len args) (label .offset) ⌝ }
 {
+    let kind = label.kind;
+    let start = label.start;
+    let length = label.length;
+    let offset = label.offset;
     let a = first_args(args, len);
     if span {
-        return [kind, start, length, a[0], a[1], a[2], a[3], a[4]];
+        return [kind, start, length, a[0], a[1], a[2], a[3], offset];
     }
-    [kind, a[0], a[1], a[2], a[3], a[4], a[5], 0]
+    [kind, a[0], a[1], a[2], a[3], a[4], a[5], offset]
 }
 
 pub fn surface_row(label: Label, args: [u32; 6], len: u32) -> [u32; 8]
     ensures { λ r. ⌜ r ≡ surface-row (record { label = label; children = take len args }) ⌝ }
 {
     let span = holds_span(label.kind);
-    row_words(label.kind, span, label.start, label.length, args, len)
+    row_words(label, span, args, len)
 }
 
 // The row of a term that is kept: only a universe has a span in the core module.
-pub fn core_row(kind: u32, start: u32, length: u32, args: [u32; 6], len: u32) -> [u32; 8]
-    ensures { λ r. ⌜ r ≡ row kind (cond (eqb kind universe) (start ∷ length ∷ []) [] ++ take len args) ⌝ }
+pub fn core_row(label: Label, args: [u32; 6], len: u32) -> [u32; 8]
+    ensures { λ r. ⌜ r ≡ core-words label kept (take len args) ⌝ }
 {
-    row_words(kind, kind == 3, start, length, args, len)
+    row_words(label, label.kind == 3, args, len)
 }
 
-// The row of a var with its count, or of a global with its place.
-pub fn reference_row(kind: u32, number: u32) -> [u32; 8]
-    ensures { λ r. ⌜ r ≡ row kind (number ∷ []) ⌝ }
+// The row of a var with its count, or of a global with its place, for a reference at an offset.
+pub fn reference_row(kind: u32, number: u32, offset: u32) -> [u32; 8]
+    ensures { λ r. ⌜ r ≡ row kind (number ∷ []) offset ⌝ }
 {
-    [kind, number, 0, 0, 0, 0, 0, 0]
+    [kind, number, 0, 0, 0, 0, 0, offset]
+}
+
+// The offset of the term at row k, 0 where the table has no such row.
+pub fn row_offset(table: &[u32], k: u32) -> u32
+    ensures { λ r. ⌜ r ≡ getD (now (table .entry)) (k * 8 + 7) 0 ⌝ }
+{
+    word_at(table, k as usize * 8 + 7)
 }
 
 // Stores a row at place k and answers true, or false where the table has no such place.

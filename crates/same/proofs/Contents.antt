@@ -6,7 +6,7 @@ use mathlib.Core.Bool.{Bool, true, false, cond}
 use native.Mathlib.Omega.{arith}
 use lib.Dec.{eqb}
 use borrow.Author.Tests.{eq-eqb, ne-eqb}
-use lib.ListN.{getD, drop}
+use lib.ListN.{getD, take, drop}
 use Rattle.terms.specs.Forms.{universe}
 use Rattle.terms.specs.Label.{Name, part}
 use Rattle.terms.specs.Content.{RowContent, row-content, RecordContent}
@@ -31,19 +31,26 @@ moved n t i j e = ap (words-at n t) e
 abbrev content : ℕ → Name → List ℕ → RowContent
 content k d w = record { kind = k; digits = d; fields = w }
 
--- Of a row's words: the kind always counts, a universe's digits stand for its start and length.
-content-kind : (s : List ℕ) (k : ℕ) (w : List ℕ) → row-content s (k ∷ w) .kind ≡ k
-content-kind s k w = go (eqb k universe)
-  where
-    go : (b : Bool) → (cond b (content k (part s (getD w 0 0) (getD w 1 0)) (0 ∷ 0 ∷ drop 2 w)) (content k [] w)) .kind ≡ k
-    go true = refl
-    go false = refl
+-- Of a row's words: the kind always counts, a universe's digits stand for its start and length, and the last word does not count.
+module _ (s : List ℕ) (k : ℕ) (w : List ℕ) where
+  abbrev by-digits : RowContent
+  by-digits = content k (part s (getD w 0 0) (getD w 1 0)) (0 ∷ 0 ∷ drop 2 (take 6 w))
 
-content-plain : (s : List ℕ) (k : ℕ) (w : List ℕ) → ¬ (k ≡ universe) → row-content s (k ∷ w) ≡ content k [] w
-content-plain s k w h = ap (λ (b : Bool). cond b (content k (part s (getD w 0 0) (getD w 1 0)) (0 ∷ 0 ∷ drop 2 w)) (content k [] w)) (ne-eqb k universe h)
+  abbrev by-words : RowContent
+  by-words = content k [] (take 6 w)
 
-content-universe : (s : List ℕ) (k : ℕ) (w : List ℕ) → k ≡ universe → row-content s (k ∷ w) ≡ content k (part s (getD w 0 0) (getD w 1 0)) (0 ∷ 0 ∷ drop 2 w)
-content-universe s k w h = ap (λ (b : Bool). cond b (content k (part s (getD w 0 0) (getD w 1 0)) (0 ∷ 0 ∷ drop 2 w)) (content k [] w)) (eq-eqb k universe h)
+  content-kind : row-content s (k ∷ w) .kind ≡ k
+  content-kind = go (eqb k universe)
+    where
+      go : (b : Bool) → (cond b by-digits by-words) .kind ≡ k
+      go true = refl
+      go false = refl
+
+  content-plain : ¬ (k ≡ universe) → row-content s (k ∷ w) ≡ by-words
+  content-plain h = ap (λ (b : Bool). cond b by-digits by-words) (ne-eqb k universe h)
+
+  content-universe : k ≡ universe → row-content s (k ∷ w) ≡ by-digits
+  content-universe h = ap (λ (b : Bool). cond b by-digits by-words) (eq-eqb k universe h)
 
 module _ (s core₁ t core₂ : List ℕ) (i : ℕ) where
   abbrev at : ℕ
@@ -54,7 +61,7 @@ module _ (s core₁ t core₂ : List ℕ) (i : ℕ) where
   row-kinds d e = d (sym (content-kind s (getD core₁ at 0) (words-at 7 core₁ (at + 1))) ∙ ap (λ (r : RowContent). r .kind) e ∙ content-kind t (getD core₂ at 0) (words-at 7 core₂ (at + 1)))
 
   module _ (e : getD core₁ at 0 ≡ getD core₂ at 0) where
-    pub row-plain : ¬ (getD core₁ at 0 ≡ universe) → (r : Bool) → Decides r (words-at 7 core₁ (at + 1) ≡ words-at 7 core₂ (at + 1)) → Decides r (SameRow s core₁ t core₂ i)
+    pub row-plain : ¬ (getD core₁ at 0 ≡ universe) → (r : Bool) → Decides r (words-at 6 core₁ (at + 1) ≡ words-at 6 core₂ (at + 1)) → Decides r (SameRow s core₁ t core₂ i)
     unfolding SameRow
     row-plain p r d =
         let x = content-plain s (getD core₁ at 0) (words-at 7 core₁ (at + 1)) p in
@@ -65,22 +72,22 @@ module _ (s core₁ t core₂ : List ℕ) (i : ℕ) where
         d
 
     module _ (u : getD core₁ at 0 ≡ universe) where
-      as-one : row-content s (row-at core₁ i) ≡ content (getD core₁ at 0) (atom-at s core₁ (at + 1)) (0 ∷ 0 ∷ words-at 5 core₁ (at + 3))
+      as-one : row-content s (row-at core₁ i) ≡ content (getD core₁ at 0) (atom-at s core₁ (at + 1)) (0 ∷ 0 ∷ words-at 4 core₁ (at + 3))
       as-one =
           content-universe s (getD core₁ at 0) (words-at 7 core₁ (at + 1)) u
-          ∙ ap (λ (w : List ℕ). content (getD core₁ at 0) (atom-at s core₁ (at + 1)) (0 ∷ 0 ∷ w)) (moved 5 core₁ (at + 1 + 1 + 1) (at + 3) (omega arith))
+          ∙ ap (λ (w : List ℕ). content (getD core₁ at 0) (atom-at s core₁ (at + 1)) (0 ∷ 0 ∷ w)) (moved 4 core₁ (at + 1 + 1 + 1) (at + 3) (omega arith))
 
-      as-other : row-content t (row-at core₂ i) ≡ content (getD core₂ at 0) (atom-at t core₂ (at + 1)) (0 ∷ 0 ∷ words-at 5 core₂ (at + 3))
+      as-other : row-content t (row-at core₂ i) ≡ content (getD core₂ at 0) (atom-at t core₂ (at + 1)) (0 ∷ 0 ∷ words-at 4 core₂ (at + 3))
       as-other =
           content-universe t (getD core₂ at 0) (words-at 7 core₂ (at + 1)) (sym e ∙ u)
-          ∙ ap (λ (w : List ℕ). content (getD core₂ at 0) (atom-at t core₂ (at + 1)) (0 ∷ 0 ∷ w)) (moved 5 core₂ (at + 1 + 1 + 1) (at + 3) (omega arith))
+          ∙ ap (λ (w : List ℕ). content (getD core₂ at 0) (atom-at t core₂ (at + 1)) (0 ∷ 0 ∷ w)) (moved 4 core₂ (at + 1 + 1 + 1) (at + 3) (omega arith))
 
       module _ (q : Bool) (o : Decides q (atom-at s core₁ (at + 1) ≡ atom-at t core₂ (at + 1))) where
         pub row-digits : q ≡ false → ¬ SameRow s core₁ t core₂ i
         unfolding SameRow
         row-digits n f = fails (atom-at s core₁ (at + 1) ≡ atom-at t core₂ (at + 1)) q o n (ap (λ (c : RowContent). c .digits) (sym as-one ∙ f ∙ as-other))
 
-        pub row-universe : q ≡ true → (r : Bool) → Decides r (words-at 5 core₁ (at + 3) ≡ words-at 5 core₂ (at + 3)) → Decides r (SameRow s core₁ t core₂ i)
+        pub row-universe : q ≡ true → (r : Bool) → Decides r (words-at 4 core₁ (at + 3) ≡ words-at 4 core₂ (at + 3)) → Decides r (SameRow s core₁ t core₂ i)
         unfolding SameRow
         row-universe y r d =
             let a = holds (atom-at s core₁ (at + 1) ≡ atom-at t core₂ (at + 1)) q o y in

@@ -47,7 +47,7 @@ fn same_atom(s: &[u8], a: &[u32], t: &[u8], b: &[u32], from: usize) -> bool
     words::same_bytes(x, y)
 }
 
-// Row i of two core tables, by what counts of it: a universe's digits do, their place in the source does not.
+// Row i of two core tables, by what counts of it: a universe's digits do, their place in the source and the term's do not.
 fn same_row(s: &[u8], core1: &[u32], t: &[u8], core2: &[u32], i: usize) -> bool
     requires { ⌜ i ≤ 4294967296 ⌝ }
     ensures { λ r. ⌜ Decides r (SameRow (now (s .entry)) (now (core1 .entry)) (now (t .entry)) (now (core2 .entry)) i) ⌝ }
@@ -58,12 +58,12 @@ fn same_row(s: &[u8], core1: &[u32], t: &[u8], core2: &[u32], i: usize) -> bool
         return false;
     }
     if kind != 3 {
-        return same_words(core1, core2, at + 1, 7);
+        return same_words(core1, core2, at + 1, 6);
     }
     if !same_atom(s, core1, t, core2, at + 1) {
         return false;
     }
-    same_words(core1, core2, at + 3, 5)
+    same_words(core1, core2, at + 3, 4)
 }
 
 // The rows from row `from` on and before row `to`.

@@ -12,6 +12,7 @@ pub mod CompleteModule
 pub mod Acceptance
 pub mod Accepted
 pub mod Demand
+pub mod Offsets
 pub mod Points
 pub mod KeptLengths
 pub mod Reports

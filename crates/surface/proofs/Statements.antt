@@ -3,7 +3,7 @@ use mathlib.Core.List.{List}
 use native.Mathlib.Omega.{arith}
 use Rattle.terms.proofs.Widths.{total-surface}
 use Rattle.surface.specs.Card.{StarredReadings}
-use Rattle.surface.specs.Statements.{Sound, Complete, Unique, ReadsExactly, LoadsExactly, Demand1, Demand3, Demand3In, LoadReports, ReportTells, AskReports}
+use Rattle.surface.specs.Statements.{Sound, Complete, Unique, ReadsExactly, LoadsExactly, Demand1, Demand3, Demand3In, RowOffsets, LoadReports, ReportTells, AskReports}
 use Rattle.surface.specs.Tables.{in-words}
 use Rattle.surface.proofs.Starred as starred
 use Rattle.surface.proofs.SoundModule as reading-sound
@@ -11,6 +11,7 @@ use Rattle.surface.proofs.CompleteModule as reading-complete
 use Rattle.surface.proofs.Acceptance as acceptance
 use Rattle.surface.proofs.Accepted as accepted
 use Rattle.surface.proofs.Demand as demand
+use Rattle.surface.proofs.Offsets as offsets
 use Rattle.surface.proofs.Reports as reports
 use Prim.Native.Nat.{ℕ}
 
@@ -43,6 +44,9 @@ demand-3 = demand.demand-3
 pub demand-3-in : (D : Type 0) (words : D → List ℕ) → Demand3In D words
 demand-3-in D words s t before₁ before₂ a b after₁ after₂ =
     demand.demand-3 s t (in-words words before₁) (in-words words before₂) a b (in-words words after₁) (in-words words after₂)
+
+pub row-offsets : RowOffsets
+row-offsets = offsets.row-offsets
 
 pub load-reports : LoadReports
 load-reports = reports.load-reports

@@ -52,16 +52,16 @@ starred =
     refuses (H "(postulate a nat)(postulate a (ref q))") 4 ∷
     refuses (H "(postulate a (ref q))(postulate a nat)") 5 ∷
     refuses-at (H "(postulate b (ref q))(") 1 45 ∷
-    -- the listing's input: `0 nat, 1 global 0, 2 var 0, 3 pi 1 2; 0 postulate x 0, 1 postulate y 3`
+    -- the listing's input: `0 nat, 1 global 0, 2 var 0, 3 pi 1 2; 0 postulate x 0, 1 postulate y 3`, and where each term starts
     gives (H "(postulate x nat)(postulate y (pi x (ref x) (ref x)))") (Loaded 4 2)
-    (19 ∷ 0 ∷ 0 ∷ 0 ∷ 0 ∷ 0 ∷ 0 ∷ 0 ∷
-    24 ∷ 64 ∷ 1 ∷ 0 ∷ 0 ∷ 0 ∷ 0 ∷ 0 ∷
-    24 ∷ 72 ∷ 1 ∷ 0 ∷ 0 ∷ 0 ∷ 0 ∷ 0 ∷
-    4 ∷ 57 ∷ 1 ∷ 1 ∷ 2 ∷ 0 ∷ 0 ∷ 0 ∷ [])
-    (19 ∷ 0 ∷ 0 ∷ 0 ∷ 0 ∷ 0 ∷ 0 ∷ 0 ∷
-    2 ∷ 0 ∷ 0 ∷ 0 ∷ 0 ∷ 0 ∷ 0 ∷ 0 ∷
-    1 ∷ 0 ∷ 0 ∷ 0 ∷ 0 ∷ 0 ∷ 0 ∷ 0 ∷
-    4 ∷ 1 ∷ 2 ∷ 0 ∷ 0 ∷ 0 ∷ 0 ∷ 0 ∷ [])
+    (19 ∷ 0 ∷ 0 ∷ 0 ∷ 0 ∷ 0 ∷ 0 ∷ 36 ∷
+    24 ∷ 64 ∷ 1 ∷ 0 ∷ 0 ∷ 0 ∷ 0 ∷ 59 ∷
+    24 ∷ 72 ∷ 1 ∷ 0 ∷ 0 ∷ 0 ∷ 0 ∷ 67 ∷
+    4 ∷ 57 ∷ 1 ∷ 1 ∷ 2 ∷ 0 ∷ 0 ∷ 53 ∷ [])
+    (19 ∷ 0 ∷ 0 ∷ 0 ∷ 0 ∷ 0 ∷ 0 ∷ 36 ∷
+    2 ∷ 0 ∷ 0 ∷ 0 ∷ 0 ∷ 0 ∷ 0 ∷ 59 ∷
+    1 ∷ 0 ∷ 0 ∷ 0 ∷ 0 ∷ 0 ∷ 0 ∷ 67 ∷
+    4 ∷ 1 ∷ 2 ∷ 0 ∷ 0 ∷ 0 ∷ 0 ∷ 53 ∷ [])
     (1 ∷ 34 ∷ 1 ∷ 0 ∷ 0 ∷
     1 ∷ 51 ∷ 1 ∷ 3 ∷ 0 ∷ []) ∷
     []

@@ -2,7 +2,7 @@
 -- The starred readings stand in Card.
 use mathlib.Core.Path.{_≡_}
 use mathlib.Core.Logic.{_↔_, _⊎_}
-use mathlib.Core.List.{List, [], _∷_}
+use mathlib.Core.List.{List, [], _∷_, map}
 use mathlib.Core.Option.{none}
 use mathlib.Core.Bool.{false}
 use Prim.Native.Nat.{ℕ, suc, _/_, _≤_, max}
@@ -12,8 +12,9 @@ use Rattle.utf8.specs.Utf8.{byte-order-mark, WellFormed}
 use Rattle.terms.specs.Tree.{Forest, nil, node}
 use Rattle.terms.specs.Label.{Label, Declaration, trees}
 use Rattle.terms.specs.Resolution.{first-refused, resolve-module}
-use Rattle.terms.specs.Rows.{surface-rows}
+use Rattle.terms.specs.Rows.{surface-rows, first-rows}
 use Rattle.terms.specs.Dependence.{Shows, Depends}
+use Rattle.terms.specs.Offsets.{eighth-word, offsets-of, ModuleBegins}
 use Rattle.surface.specs.declared.Answer.{Answer}
 use Rattle.surface.specs.declared.Dependence.{Dependence}
 use Rattle.surface.specs.Grammar.{Derives}
@@ -21,8 +22,8 @@ use Rattle.surface.specs.Reader.{Position, start, Result, done, refused}
 use Rattle.surface.specs.Reading.{read-module}
 use Rattle.surface.specs.Tables.{Each, Lengths, Tables, lengths, blank, in-words, leaves}
 use Rattle.surface.specs.Reports.{Report, accepted, report-refusal, report, report-dependence}
-use Rattle.surface.specs.Loading.{reading, loading, Loads}
-use Rattle.surface.specs.SameCore.{SameCore, Accepts}
+use Rattle.surface.specs.Loading.{reading, loading, Outcome, Loads}
+use Rattle.surface.specs.SameCore.{row-count, SameCore, Accepts}
 use Rattle.surface.specs.Agreement.{Agreement}
 use Rattle.surface.specs.Dependence.{asking, Asks}
 
@@ -109,6 +110,18 @@ Demand3In D words =
     → Loads s (in-words words before₁) a (in-words words after₁) → Loads t (in-words words before₂) b (in-words words after₂)
     → Accepts (leaves a (in-words words after₁)) → Accepts (leaves b (in-words words after₂))
     → SameCore s (leaves a (in-words words after₁)) t (leaves b (in-words words after₂)) ↔ Agreement s t
+
+-- DOCUMENT 02, REQ 01, about what a call of `load` leaves that accepts its source: the eighth words of the rows in use, of both tables, are
+-- the offsets that the grammar gives the terms, and there each term begins.
+pub record RowsBegin (s : List ℕ) (o : Outcome) : Type 0 where
+  pub declarations : List Declaration
+  pub derives : Derives s declarations
+  pub surface : map eighth-word (first-rows 8 (row-count (o .answer)) (o .tables .surface)) ≡ offsets-of declarations
+  pub core : map eighth-word (first-rows 8 (row-count (o .answer)) (o .tables .core)) ≡ offsets-of declarations
+  pub begins : ModuleBegins s declarations
+
+abbrev pub RowOffsets : Type 0
+RowOffsets = (s : List ℕ) (before : Tables) (a : Answer) (after : Tables) → Loads s before a after → Accepts (leaves a after) → RowsBegin s (leaves a after)
 
 -- "The promises use that definition": the number and values of what a call of `load` answers, from the result of loading by the definitions.
 abbrev pub loading-reports : Result (List Declaration) → Report

@@ -24,10 +24,10 @@ pad-inj (suc n) (x ∷ l) (y ∷ m) e k h =
 
 -- What counts of the row of a term.
 abbrev pub row-of : NamedCore → List ℕ → RowContent
-row-of (form k d) l = record { kind = k; digits = d; fields = pad 7 l }
-row-of (local i) l = record { kind = 1; digits = []; fields = pad 7 (i ∷ []) }
-row-of (earlier i) l = record { kind = 2; digits = []; fields = pad 7 (i ∷ []) }
-row-of unresolved l = record { kind = 0; digits = []; fields = pad 7 [] }
+row-of (form k d) l = record { kind = k; digits = d; fields = pad 6 l }
+row-of (local i) l = record { kind = 1; digits = []; fields = pad 6 (i ∷ []) }
+row-of (earlier i) l = record { kind = 2; digits = []; fields = pad 6 (i ∷ []) }
+row-of unresolved l = record { kind = 0; digits = []; fields = pad 6 [] }
 
 abbrev pub row : Cell NamedCore → RowContent
 row c = row-of (c .label) (c .children)
@@ -47,7 +47,7 @@ row-inj : (h k : NamedCore) (l m : List ℕ) → Fits h (length l) → Fits k (l
 row-inj (form j d) (form k e) l m f g q =
     let r : j ≡ k = ap (λ (r : RowContent). r .kind) q in
     let s : d ≡ e = ap (λ (r : RowContent). r .digits) q in
-    (λ i. form (r i) (s i), pad-inj 7 l m (f .1 ∙ ap arity-of r ∙ sym (g .1)) (omega (arith, f .1, arity-small j)) (ap (λ (r : RowContent). r .fields) q))
+    (λ i. form (r i) (s i), pad-inj 6 l m (f .1 ∙ ap arity-of r ∙ sym (g .1)) (omega (arith, f .1, arity-small j)) (ap (λ (r : RowContent). r .fields) q))
 row-inj (form j d) (local i) l m f g q = absurd (omega (arith, ap (λ (r : RowContent). r .kind) q))
 row-inj (form j d) (earlier i) l m f g q = absurd (omega (arith, ap (λ (r : RowContent). r .kind) q))
 row-inj (form j d) unresolved l m f g q = absurd g

@@ -12,5 +12,7 @@ pub mod SameContents
 pub mod Spans
 pub mod FirstRefused
 pub mod Tables
+pub mod RowFields
 pub mod Widths
 pub mod Depends
+pub mod Offsets

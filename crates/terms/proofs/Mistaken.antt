@@ -22,6 +22,10 @@ at-blank k a r = node (record { kind = k; start = 1; length = 1; offset = 0 }) a
 abbrev nat : Forest Label → Forest Label
 nat r = node (record { kind = 19; start = 0; length = 0; offset = 0 }) nil r
 
+-- A row by its kind and fields; every term below has the offset 0.
+abbrev words : ℕ → List ℕ → List ℕ
+words k fields = row k fields 0
+
 -- A term, the names declared before it, and its core rows.
 pub record Scoped : Type 0 where
   pub globals : List Name
@@ -34,13 +38,13 @@ scoped g t l = record { globals = g; term = t; rows = l }
 abbrev pub small-terms : List Scoped
 small-terms =
     -- (pi x (ref x) (ref x)) behind a declaration x: the binder is not visible in its own domain, and counts start at 0
-    scoped (ascii "x" ∷ []) (at-x pi (at-x ref nil (at-x ref nil nil)) nil) (row 2 (0 ∷ []) ∷ row 1 (0 ∷ []) ∷ row 4 (0 ∷ 1 ∷ []) ∷ []) ∷
+    scoped (ascii "x" ∷ []) (at-x pi (at-x ref nil (at-x ref nil nil)) nil) (words 2 (0 ∷ []) ∷ words 1 (0 ∷ []) ∷ words 4 (0 ∷ 1 ∷ []) ∷ []) ∷
     -- (pi _ nat (ref _)): `_` is an ordinary name
-    scoped [] (at-blank pi (nat (at-blank ref nil nil)) nil) (row 19 [] ∷ row 1 (0 ∷ []) ∷ row 4 (0 ∷ 1 ∷ []) ∷ []) ∷
+    scoped [] (at-blank pi (nat (at-blank ref nil nil)) nil) (words 19 [] ∷ words 1 (0 ∷ []) ∷ words 4 (0 ∷ 1 ∷ []) ∷ []) ∷
     -- (lam x (lam x (ref x))): the innermost binds
-    scoped [] (at-x lam (at-x lam (at-x ref nil nil) nil) nil) (row 1 (0 ∷ []) ∷ row 5 (0 ∷ []) ∷ row 5 (1 ∷ []) ∷ []) ∷
+    scoped [] (at-x lam (at-x lam (at-x ref nil nil) nil) nil) (words 1 (0 ∷ []) ∷ words 5 (0 ∷ []) ∷ words 5 (1 ∷ []) ∷ []) ∷
     -- (lam x (lam _ (ref x))) behind a declaration x: a local hides it, and the binder between counts
-    scoped (ascii "x" ∷ []) (at-x lam (at-blank lam (at-x ref nil nil) nil) nil) (row 1 (1 ∷ []) ∷ row 5 (0 ∷ []) ∷ row 5 (1 ∷ []) ∷ []) ∷
+    scoped (ascii "x" ∷ []) (at-x lam (at-blank lam (at-x ref nil nil) nil) nil) (words 1 (1 ∷ []) ∷ words 5 (0 ∷ []) ∷ words 5 (1 ∷ []) ∷ []) ∷
     []
 
 pub small-cores : map (λ t. map core-row (cells 0 (resolve source (λ i. []) (t .globals) (t .term)))) small-terms ≡ map (λ t. t .rows) small-terms

@@ -8,17 +8,18 @@ use Prim.Native.Nat.{ℕ, zero, suc}
 use native.Mathlib.Decide.{ℕ-discrete}
 use lib.Dec.{eqb}
 use borrow.Author.Tests.{eqb-true, eq-eqb, ne-eqb}
-use lib.ListN.{length, getD, drop}
+use lib.ListN.{length, getD, take, drop}
 use Rattle.terms.specs.Forms.{universe, ref, arity-of}
 use Rattle.terms.specs.Tree.{Forest, nil, node, Tree, tree, maybe, Cell, cells, next, roots, relabel, relabel-tree}
 use Rattle.terms.specs.Label.{Name, part, Label, Declaration, trees, Terms, named, declared-name, named-declaration}
 use Rattle.terms.specs.Resolution.{find, Core, kept, var, global, unknown, referent, core-of, locals-in, Resolved, resolve, resolve-declaration, resolve-module}
-use Rattle.terms.specs.Rows.{pad, row, core-words, core-row, core-rows, declaration-records}
+use Rattle.terms.specs.Rows.{pad, core-words, core-row, core-rows, declaration-records}
 use Rattle.terms.specs.Content.{RowContent, row-content, record-content}
 use Rattle.terms.proofs.FormTable.{arity-universe}
 use Rattle.terms.proofs.Cells.{recell, next-relabel, roots-relabel, cells-relabel}
 use Rattle.terms.proofs.NamedCore.{NamedCore, form, local, earlier, unresolved, found, digits-of, core-at, core-at-ref, core-at-form, core, known}
 use Rattle.terms.proofs.CoreRows.{no-children, row-of, row as content-row, rows, Fits, CellsFit, cells-fit}
+use Rattle.terms.proofs.RowFields.{six-fields}
 use Rattle.terms.proofs.NamedModule.{Shaped, parts, ShapedModule, cores, resolves, resolves-cons, rows-of, records-of, core-fits}
 
 -- What a resolved term is, with its bytes.
@@ -78,14 +79,18 @@ content-of s l kept k f = go (eqb (l .kind) universe) refl
     at : List ℕ → List ℕ → RowContent
     at d w = record { kind = l .kind; digits = d; fields = w }
 
-    go : (b : Bool) → eqb (l .kind) universe ≡ b
-        → row-content s (row (l .kind) (cond b (l .start ∷ l .length ∷ []) [] ++ k)) ≡ at (cond b (part s (l .start) (l .length)) []) (pad 7 k)
+    words : Bool → List ℕ
+    words b = pad 6 (cond b (l .start ∷ l .length ∷ []) [] ++ k) ++ (l .offset ∷ [])
+
+    go : (b : Bool) → eqb (l .kind) universe ≡ b → row-content s (l .kind ∷ words b) ≡ at (cond b (part s (l .start) (l .length)) []) (pad 6 k)
     go true q =
         let z : k ≡ [] = no-children k (f .1 ∙ ap arity-of (eqb-true (l .kind) universe q) ∙ arity-universe) in
-        ap (λ (b : Bool). cond b (at (part s (l .start) (l .length)) (0 ∷ 0 ∷ pad 5 k)) (at [] (pad 7 (l .start ∷ l .length ∷ k)))) q
-        ∙ ap (λ (x : List ℕ). at (part s (l .start) (l .length)) (0 ∷ 0 ∷ pad 5 x)) z
-        ∙ ap (λ (x : List ℕ). at (part s (l .start) (l .length)) (pad 7 x)) (sym z)
-    go false q = ap (λ (b : Bool). cond b (at (part s (getD (pad 7 k) 0 0) (getD (pad 7 k) 1 0)) (0 ∷ 0 ∷ drop 2 (pad 7 k))) (at [] (pad 7 k))) q
+        ap (λ (b : Bool). cond b (at (part s (l .start) (l .length)) (0 ∷ 0 ∷ drop 2 (take 6 (words true)))) (at [] (take 6 (words true)))) q
+        ∙ ap (λ (x : List ℕ). at (part s (l .start) (l .length)) (0 ∷ 0 ∷ take 4 (pad 4 x ++ (l .offset ∷ [])))) z
+        ∙ ap (λ (x : List ℕ). at (part s (l .start) (l .length)) (pad 6 x)) (sym z)
+    go false q =
+        ap (λ (b : Bool). cond b (at (part s (getD (words false) 0 0) (getD (words false) 1 0)) (0 ∷ 0 ∷ drop 2 (take 6 (words false)))) (at [] (take 6 (words false)))) q
+        ∙ ap (at []) (six-fields k (l .offset))
 content-of s l (var i) k f = refl
 content-of s l (global j) k f = refl
 content-of s l unknown k f = absurd f

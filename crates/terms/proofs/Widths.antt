@@ -4,25 +4,22 @@ use mathlib.Core.List.{List, [], _∷_, _++_, map}
 use mathlib.Core.Bool.{cond}
 use Prim.Native.Nat.{ℕ, suc, _+_, _≤_}
 use native.Mathlib.Omega.{arith}
-use lib.Dec.{eqb}
 use lib.ListN.{length, length-append, length-map}
-use Rattle.terms.specs.Forms.{universe, holds-span}
+use Rattle.terms.specs.Forms.{holds-span}
 use Rattle.terms.specs.Tree.{Cell, cells, next, roots}
 use Rattle.terms.specs.Label.{Name, Label, Declaration, trees, declared-name}
-use Rattle.terms.specs.Resolution.{Core, kept, var, global, unknown, resolve-declaration, CoreDeclaration, resolve-module}
-use Rattle.terms.specs.Rows.{span, surface-row, surface-rows, core-words, core-row, core-rows, declaration-records}
+use Rattle.terms.specs.Resolution.{Core, resolve-declaration, CoreDeclaration, resolve-module}
+use Rattle.terms.specs.Rows.{span, surface-row, surface-rows, core-kind, core-fields, core-words, core-row, core-rows, declaration-records}
 use Rattle.terms.proofs.Cells.{next-cells}
 use Rattle.terms.proofs.Spans.{resolve-next}
 use Rattle.terms.proofs.Tables.{length-pad, Wide, wide-append}
+use Rattle.terms.proofs.RowFields.{length-row}
 
 pub length-core-words : (l : Label) (c : Core) (k : List ℕ) → length (core-words l c k) ≡ 8
-length-core-words l kept k = ap suc (length-pad 7 (cond (eqb (l .kind) universe) (span l) [] ++ k))
-length-core-words l (var i) k = ap suc (length-pad 7 (i ∷ []))
-length-core-words l (global j) k = ap suc (length-pad 7 (j ∷ []))
-length-core-words l unknown k = ap suc (length-pad 7 [])
+length-core-words l c k = length-row (core-kind l c) (core-fields l c k) (l .offset)
 
 pub length-surface-row : (c : Cell Label) → length (surface-row c) ≡ 8
-length-surface-row c = ap suc (length-pad 7 (cond (holds-span (c .label .kind)) (span (c .label)) [] ++ c .children))
+length-surface-row c = length-row (c .label .kind) (cond (holds-span (c .label .kind)) (span (c .label)) [] ++ c .children) (c .label .offset)
 
 wide-map : {A : Type 0} (f : A → List ℕ) (w : ℕ) → ((a : A) → length (f a) ≡ w) → (l : List A) → Wide w (map f l)
 wide-map f w h [] = tt

@@ -6,3 +6,4 @@ pub mod Rows
 pub mod Content
 pub mod Agreement
 pub mod Dependence
+pub mod Offsets

@@ -1,4 +1,4 @@
--- Document 01, "The module read" and "The core module": rows of eight words and declaration records of five.
+-- Document 01, "The module read" and "The core module", and document 02, Req 01: rows of eight words and declaration records of five.
 use mathlib.Core.List.{List, [], _∷_, _++_, map}
 use mathlib.Core.Bool.{cond}
 use Prim.Native.Nat.{ℕ, zero, suc}
@@ -15,24 +15,35 @@ pad zero l = []
 pad (suc n) [] = 0 ∷ pad n []
 pad (suc n) (x ∷ l) = x ∷ pad n l
 
--- "A row is eight 32-bit words: kind, then fields, unused words 0."
-abbrev pub row : ℕ → List ℕ → List ℕ
-row k fields = k ∷ pad 7 fields
+-- "A row is eight 32-bit words: kind, then fields, unused words 0." Req 01: "The eighth word of each surface and core row shall hold the
+-- offset of the term's first byte: its opening parenthesis, or its atom." No kind has more than six fields.
+abbrev pub row : ℕ → List ℕ → ℕ → List ℕ
+row k fields offset = k ∷ pad 6 fields ++ (offset ∷ [])
 
 abbrev pub span : Label → List ℕ
 span l = l .start ∷ l .length ∷ []
 
 -- "Ref and universe hold start and length of their atom; pi, sigma and lam hold their binder's start and length, then children."
 abbrev pub surface-row : Cell Label → List ℕ
-surface-row c = row (c .label .kind) (cond (holds-span (c .label .kind)) (span (c .label)) [] ++ c .children)
+surface-row c = row (c .label .kind) (cond (holds-span (c .label .kind)) (span (c .label)) [] ++ c .children) (c .label .offset)
 
 -- "Core row k has surface row k's kind and children without the binder, and a universe its start and length;
 -- ref becomes var with a count, or global with a place from 0." A module with an unknown reference leaves no row.
+abbrev pub core-kind : Label → Core → ℕ
+core-kind l kept = l .kind
+core-kind l (var count) = var-kind
+core-kind l (global place) = global-kind
+core-kind l unknown = 0
+
+abbrev pub core-fields : Label → Core → List ℕ → List ℕ
+core-fields l kept children = cond (eqb (l .kind) universe) (span l) [] ++ children
+core-fields l (var count) children = count ∷ []
+core-fields l (global place) children = place ∷ []
+core-fields l unknown children = []
+
+-- Whatever a term becomes, its core row has its offset.
 abbrev pub core-words : Label → Core → List ℕ → List ℕ
-core-words l kept children = row (l .kind) (cond (eqb (l .kind) universe) (span l) [] ++ children)
-core-words l (var count) children = row var-kind (count ∷ [])
-core-words l (global place) children = row global-kind (place ∷ [])
-core-words l unknown children = row 0 []
+core-words l c children = row (core-kind l c) (core-fields l c children) (l .offset)
 
 abbrev pub core-row : Cell Resolved → List ℕ
 core-row c = core-words (c .label .label) (c .label .core) (c .children)

@@ -80,9 +80,12 @@ module _ (b : ℕ) where
   unfolding byte-class
   close-class e = ap byte-class e
 
-  pub not-open-class : Not b 40 → byte-class b ≡ LParen → ⊥
+  pub open-byte : byte-class b ≡ LParen → b ≡ 40
   unfolding byte-class
-  not-open-class n e = n (eqb-true b 40 (open-third (layout-byte b) (eqb b 59) (eqb b 40) (eqb b 41) (atom-byte b) e))
+  open-byte e = eqb-true b 40 (open-third (layout-byte b) (eqb b 59) (eqb b 40) (eqb b 41) (atom-byte b) e)
+
+  pub not-open-class : Not b 40 → byte-class b ≡ LParen → ⊥
+  not-open-class n e = n (open-byte e)
 
   pub not-close-class : Not b 41 → byte-class b ≡ RParen → ⊥
   unfolding byte-class

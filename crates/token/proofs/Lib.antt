@@ -2,4 +2,5 @@ mod Classes
 pub mod Runs
 mod Comments
 pub mod Bounds
+pub mod Parentheses
 mod CommentBlocks

@@ -1,15 +1,15 @@
 -- `eval_reference` meets its contract.
 use mathlib.Core.Path.{refl, sym, ap, _∙_}
-use native.Mathlib.Omega.{arith}
 use Rattle.terms.specs.Resolution.{is-unknown}
-use Rattle.scope.specs.Scope.{core-of-referent}
+use Rattle.scope.specs.Scope.{local-names, declared-names, core-of-referent}
+use Rattle.elaborate.proofs.Alike.{reference-core}
 use Rattle.elaborate.proofs.Finishing.{reference-done}
 use borrow.Author.Needs.{needs}
 use Rattle.elaborate.proofs.eval_reference.Statement.{statement}
 use Rattle.elaborate.proofs.eval_reference.Tie as tie
 
 find-name-requires : tie.Need-find-name-requires
-find-name-requires c κs = let o = c .before .before .before .before .before .before in (record { few = o .pre .0; there = omega (arith, o .pre .3) }, o .pre .2, o .pre .4)
+find-name-requires c κs = search needs
 
 enum-known-r : tie.Need-enum-known-r
 enum-known-r c = search needs
@@ -42,7 +42,8 @@ returns : tie.Need-returns
 returns c =
     let o = c .before .before .before .before .before .before .before .before .before .before .before .before .before .before .before .before .before .before in
     let a = o .args in
-    reference-done (a .start) (a .length) (a .st) _ _ _ (sym (ap core-of-referent (c .before .before .before .before .before .before .before .before .before .r .given .1)) ∙ c .before .before .before .before .before .before .before .before .before .before .before .find-name .ensures) refl
+    reference-done (a .label) (a .st) _ _ _
+    (sym (ap core-of-referent (c .before .before .before .before .before .before .before .before .before .r .given .1)) ∙ c .before .before .before .before .before .before .before .before .before .before .before .find-name .ensures ∙ reference-core (a .s .now) (local-names (a .s .now) (a .work .now) (a .st .locals)) (declared-names (a .s .now) (a .declarations .now) 0 (a .d)) (a .label) (o .pre .1)) refl
     (c .before .before .before .before .before .before .before .reference-row .ensures) (c .before .before .before .before .finish .ensures)
 
 same-length-3 : tie.Need-same-length-3
@@ -55,7 +56,8 @@ returns-2 : tie.Need-returns-2
 returns-2 c =
     let o = c .before .before .before .before .before .before .before .before .before .before .before .before .before .before .before .before .before .before in
     let a = o .args in
-    reference-done (a .start) (a .length) (a .st) _ _ _ (sym (ap core-of-referent (c .before .before .before .before .before .before .before .before .before .r2 .given .1)) ∙ c .before .before .before .before .before .before .before .before .before .before .before .find-name .ensures) refl
+    reference-done (a .label) (a .st) _ _ _
+    (sym (ap core-of-referent (c .before .before .before .before .before .before .before .before .before .r2 .given .1)) ∙ c .before .before .before .before .before .before .before .before .before .before .before .find-name .ensures ∙ reference-core (a .s .now) (local-names (a .s .now) (a .work .now) (a .st .locals)) (declared-names (a .s .now) (a .declarations .now) 0 (a .d)) (a .label) (o .pre .1)) refl
     (c .before .before .before .before .before .before .before .reference-row2 .ensures) (c .before .before .before .before .finish2 .ensures)
 
 same-length-5 : tie.Need-same-length-5
@@ -64,7 +66,13 @@ same-length-5 c = search needs
 returns-3 : tie.Need-returns-3
 returns-3 c =
     let o = c .before .before .before .before .before .before .before .before .before in
-    (ap is-unknown (sym (sym (ap core-of-referent (c .enum-told .given .1)) ∙ c .before .before .find-name .ensures)), refl, refl)
+    let a = o .args in (
+      ap is-unknown
+          (sym (sym (ap core-of-referent (c .enum-told .given .1)) ∙ c .before .before .find-name .ensures
+          ∙ reference-core (a .s .now) (local-names (a .s .now) (a .work .now) (a .st .locals)) (declared-names (a .s .now) (a .declarations .now) 0 (a .d)) (a .label) (o .pre .1))),
+      refl,
+      refl,
+    )
 
 pub eval-reference-spec : {M : Type 1} → statement M
 eval-reference-spec =

@@ -127,8 +127,8 @@ returns-4 c =
     let r = top-room _ _ (a .st) (p .result) e (p .ensures) (o .pre .1 .0) in
     let k = c .before .before .before .before .build-term in
     let x = top-fits (a .st) (p .result) (p .ensures) in
-    top-stepped (a .s .now) (a .surface .now) (a .declarations .now) (a .rows) (a .d) (a .core .now) (a .work .now) (a .st) (p .result) (p .ensures) _ (WorkStep.Go (k .result)) (k .last .0) (k .last .1 .0) e
-    (build-stepped (a .s .now) (a .surface .now) (a .declarations .now) (a .rows) (a .d) (a .core .now) (a .work .now) (p .result) _ _ (k .result) (k .last .0) (k .last .1 .0) (omega arith) r (k .ensures))
+    top-stepped (a .s .now) (a .surface .now) (a .declarations .now) (a .rows) (a .d) (a .core .now) (a .work .now) (a .st) (p .result) (p .ensures) _ (WorkStep.Go (k .result)) (k .last .1 .0) (k .last .1 .1 .0) e
+    (build-stepped (a .s .now) (a .surface .now) (a .declarations .now) (a .rows) (a .d) (a .core .now) (a .work .now) (p .result) _ _ (k .result) (k .last .1 .0) (k .last .1 .1 .0) (omega arith) r (k .ensures))
 
 pub work-step-spec : {M : Type 1} → statement M
 work-step-spec =

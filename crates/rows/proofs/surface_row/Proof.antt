@@ -18,7 +18,7 @@ returns : tie.Need-returns
 returns c =
     let a = c .before .before .args in
     c .row-words .ensures
-    ∙ ap (λ (b : Bool). row (a .label .kind) (cond b (span (a .label)) [] ++ take (a .len) (a .args))) (c .before .holds-span .ensures)
+    ∙ ap (λ (b : Bool). row (a .label .kind) (cond b (span (a .label)) [] ++ take (a .len) (a .args)) (a .label .offset)) (c .before .holds-span .ensures)
 
 pub surface-row-spec : {M : Type 1} → statement M
 surface-row-spec = tie.close (tie.spec holds-span-requires row-words-requires returns)
