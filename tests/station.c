@@ -16,18 +16,18 @@ static int passed, failed;
 #define HEAD "(surface 0 1)(module m)"
 static const char input[] = HEAD "(postulate x nat)(postulate y (pi x (ref x) (ref x)))";
 
-/* What document 01 says of the input; the words behind these are 0. */
+/* What documents 01 and 02 say of the input; the words behind these are 0. */
 static const uint32_t surface_rows[SURFACE] = {
-    19, 0,  0, 0, 0, 0, 0, 0, /* nat */
-    24, 64, 1, 0, 0, 0, 0, 0, /* (ref x), in the domain */
-    24, 72, 1, 0, 0, 0, 0, 0, /* (ref x), in the codomain */
-    4,  57, 1, 1, 2, 0, 0, 0, /* (pi x ..) */
+    19, 0,  0, 0, 0, 0, 0, 36, /* nat */
+    24, 64, 1, 0, 0, 0, 0, 59, /* (ref x), in the domain */
+    24, 72, 1, 0, 0, 0, 0, 67, /* (ref x), in the codomain */
+    4,  57, 1, 1, 2, 0, 0, 53, /* (pi x ..) */
 };
 static const uint32_t core_rows[CORE] = {
-    19, 0, 0, 0, 0, 0, 0, 0, /* nat */
-    2,  0, 0, 0, 0, 0, 0, 0, /* global 0 */
-    1,  0, 0, 0, 0, 0, 0, 0, /* var 0 */
-    4,  1, 2, 0, 0, 0, 0, 0, /* pi */
+    19, 0, 0, 0, 0, 0, 0, 36, /* nat */
+    2,  0, 0, 0, 0, 0, 0, 59, /* global 0 */
+    1,  0, 0, 0, 0, 0, 0, 67, /* var 0 */
+    4,  1, 2, 0, 0, 0, 0, 53, /* pi */
 };
 static const uint32_t records[DECLARATIONS] = {
     1, 34, 1, 0, 0, /* postulate x */

@@ -45,7 +45,7 @@ pub const TEXT: [&str; 39] = [
 ];
 
 /// Of loading: the idle loaders of document 01, then reading and its limits, resolution, and the tables.
-pub const LOADING: [&str; 83] = [
+pub const LOADING: [&str; 87] = [
     "always-1",
     "always-the-head",
     "tables-untouched",
@@ -101,6 +101,9 @@ pub const LOADING: [&str; 83] = [
     "span-of-two-ends",
     "span-of-the-tag",
     "binder-behind-children",
+    "offset-of-the-tag",
+    "offset-of-the-atom",
+    "leaf-without-offset",
     "transparent-is-opaque",
     "postulate-with-body-row",
     "record-name-is-the-tag",
@@ -124,6 +127,7 @@ pub const LOADING: [&str; 83] = [
     "core-children-as-in-surface",
     "core-keeps-ref",
     "core-universe-without-span",
+    "core-without-offset",
     // what is left in the tables
     "unused-rows-not-cleared",
     "leftover-words-not-cleared",
@@ -155,9 +159,10 @@ pub const DEPENDENCE: [&str; 14] = [
 ];
 
 /// Of the same-core question.
-pub const SAME: [&str; 14] = [
+pub const SAME: [&str; 15] = [
     "digits-not-compared",
     "digits-by-place",
+    "offsets-compared",
     "names-by-length",
     "names-by-place",
     "kinds-not-compared",

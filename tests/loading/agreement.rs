@@ -1,6 +1,6 @@
 //! Demand 3: two accepted modules have the same core exactly if they agree.
 use super::station::Loaded;
-use super::tables::{RECORD, ROW};
+use super::tables::{OFFSET, RECORD, ROW};
 use common::modules::{Declaration, Module, Term};
 use common::vocabulary::{KINDS, kind_number};
 
@@ -79,13 +79,13 @@ pub fn same_core(left: Accepted, right: Accepted) -> bool {
     left.1.answer == right.1.answer && rows(left).eq(rows(right)) && records(left).eq(records(right))
 }
 
-/// The words of each row, a universe's span apart, and its digits.
+/// The words of each row, a universe's span and the term's offset apart, and its digits.
 fn rows<'a>((source, loaded): Accepted<'a>) -> impl Iterator<Item = (u32, &'a [u32], &'a [u8])> {
     let universe = kind_number(&KINDS, "universe").expect("a kind");
     let count = loaded.answer[1] as usize;
     loaded.tables.core.chunks_exact(ROW).take(count).map(move |row| {
         let digits = if row[0] == universe { part(source, row[1], row[2]) } else { &[] };
-        (row[0], if row[0] == universe { &[] } else { &row[1..] }, digits)
+        (row[0], if row[0] == universe { &[] } else { &row[1..OFFSET] }, digits)
     })
 }
 

@@ -1,6 +1,7 @@
-//! What document 01 says that loading leaves: the Rust's module and answer, and in their place the limits 6 to 11.
-use super::order::{self, Limits, Reading, Span};
-use super::tables::{RECORD, ROW, Sizes, WORK};
+//! What documents 01 and 02 say that loading leaves: the Rust's module and answer, in their place the limits 6 to 11, and
+//! beside them where terms start, which the Rust does not tell.
+use super::order::{self, Limits, Reading, Span, Stored};
+use super::tables::{OFFSET, RECORD, ROW, Sizes, WORK};
 use answers::rows::{Row, core_rows, records, surface_rows};
 use common::escape::escape;
 use common::refusal::Refusal;
@@ -108,16 +109,16 @@ fn content(source: &[u8], read: &SurfaceModule, core: &Module, reading: &Reading
     let (surface, resolved) = (surface_rows(read), core_rows(core));
     assert_eq!((surface.len(), resolved.len()), (reading.rows.len(), reading.rows.len()), "rows");
     let mut content = Content::default();
-    for ((row, core), span) in surface.iter().zip(&resolved).zip(&reading.rows) {
+    for ((row, core), Stored { start, span }) in surface.iter().zip(&resolved).zip(&reading.rows) {
         let held = row.detail.as_ref().or(row.binder.as_ref());
         assert_eq!(held.map(String::as_bytes), span.clone().map(|span| &source[span]), "span of {}", row.word);
-        content.surface.extend(row_words(row, span.as_ref().map(numbers)));
+        content.surface.extend(row_words(row, span.as_ref().map(numbers), *start));
         let field = match core.word {
             "var" | "global" => core.detail.as_ref().map(|count| vec![count.parse().expect("a count")]),
             "universe" => span.as_ref().map(numbers),
             _ => None,
         };
-        content.core.extend(row_words(core, field));
+        content.core.extend(row_words(core, field, *start));
     }
     for (record, name) in records(core).iter().zip(&reading.names) {
         assert_eq!(record.name.as_bytes(), &source[name.clone()], "name");
@@ -134,13 +135,15 @@ fn numbers(span: &Span) -> Vec<u32> {
     vec![span.start as u32, span.len() as u32]
 }
 
-/// "A row is eight 32-bit words: kind, then fields, unused words 0."
-fn row_words(row: &Row<usize>, fields: Option<Vec<u32>>) -> [u32; ROW] {
+/// "A row is eight 32-bit words: kind, then fields, unused words 0." Seven are the Rust's. "The comparison with the Rust
+/// leaves [the eighth] word aside": it is where the recursive reader found the term's first byte, in both tables.
+fn row_words(row: &Row<usize>, fields: Option<Vec<u32>>, start: usize) -> [u32; ROW] {
     let kind = kind_number(&KINDS, row.word).expect("a row's kind");
     let children = row.children.iter().map(|child| *child as u32);
     let mut words = [0; ROW];
     for (word, field) in words.iter_mut().zip([kind].into_iter().chain(fields.into_iter().flatten()).chain(children)) {
         *word = field;
     }
+    words[OFFSET] = start as u32;
     words
 }

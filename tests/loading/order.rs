@@ -1,5 +1,5 @@
-//! Document 01's reading order as a recursive reader that keeps spans only: where 7, 8 and 9 are met, and where an
-//! atom or binder stands. Tokens and names are judged by the Rust's own functions.
+//! Document 01's reading order as a recursive reader that keeps places only: where 7, 8 and 9 are met, where a term
+//! starts, and where its atom or binder stands. Tokens and names are judged by the Rust's own functions.
 use answers::token_at;
 use common::refusal::Refusal;
 use common::tokens::{Kind, Token};
@@ -18,12 +18,19 @@ pub struct Limits {
     pub declarations: usize,
 }
 
+/// Where a stored row's term stands.
+pub struct Stored {
+    /// Req 01: "the offset of the term's first byte: its opening parenthesis, or its atom".
+    pub start: usize,
+    /// The span of its atom or binder, if it has one.
+    pub span: Option<Span>,
+}
+
 /// How far reading went.
 pub struct Reading {
     /// None where the source was read to its end.
     pub refusal: Option<Refusal>,
-    /// For each stored row the span of its atom or binder, if it has one.
-    pub rows: Vec<Option<Span>>,
+    pub rows: Vec<Stored>,
     /// The name of each completed declaration.
     pub names: Vec<Span>,
     /// The declarations whose parenthesis was opened.
@@ -94,13 +101,14 @@ impl<'a> Reader<'a> {
     fn term(&mut self, open: usize) -> Read<()> {
         let token = self.token()?;
         match token.kind {
-            Kind::Atom if LEAVES.contains(&self.bytes(token)) => self.store(None),
-            Kind::LParen => self.form(open),
+            Kind::Atom if LEAVES.contains(&self.bytes(token)) => self.store(Stored { start: token.start, span: None }),
+            Kind::LParen => self.form(token.start, open),
             _ => Err(malformed(token)),
         }
     }
 
-    fn form(&mut self, open: usize) -> Read<()> {
+    /// A form behind its parenthesis.
+    fn form(&mut self, start: usize, open: usize) -> Read<()> {
         let tag = self.one(Kind::Atom)?;
         let span = match self.bytes(tag) {
             "ref" => Some(self.name()?),
@@ -118,15 +126,15 @@ impl<'a> Reader<'a> {
             }
         };
         self.one(Kind::RParen)?;
-        self.store(span)
+        self.store(Stored { start, span })
     }
 
     /// Stores a completed term.
-    fn store(&mut self, span: Option<Span>) -> Read<()> {
+    fn store(&mut self, row: Stored) -> Read<()> {
         if self.done.rows.len() == self.limits.rows {
             return Err(Refusal::nowhere(8));
         }
-        self.done.rows.push(span);
+        self.done.rows.push(row);
         Ok(())
     }
 

@@ -3,6 +3,8 @@
 /// "11 work area under 16,384 words"
 pub const WORK: usize = 16_384;
 pub const ROW: usize = 8;
+/// The word of a row that says where its term starts.
+pub const OFFSET: usize = ROW - 1;
 pub const RECORD: usize = 5;
 
 /// One thing for each table: its length in words, or its words.

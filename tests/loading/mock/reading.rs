@@ -10,6 +10,8 @@ use common::vocabulary::{DECLARATION_KINDS, FORMS, KINDS, LEAVES, RESERVED, kind
 /// A completed term. Children are places in the list of nodes.
 pub struct Node {
     pub kind: u32,
+    /// Where the term starts.
+    pub offset: usize,
     pub tag: Token,
     /// The name, numeral or binder.
     pub atom: Option<Token>,
@@ -135,13 +137,13 @@ impl<'a> Reader<'a> {
                 Kind::LParen => {
                     self.full_if("seven-before-tag", 7, frames.len() == 512)?;
                     let tag = self.expect(Kind::Atom)?;
-                    match self.small(tag, frames.len())? {
+                    match self.small(token, tag, frames.len())? {
                         Some(node) => node,
                         None => {
                             opened += 1;
                             greatest = greatest.max(frames.len() + 1);
                             let open = if is("frames-not-given-back") { opened } else { frames.len() + 1 };
-                            frames.push(self.frame(tag, before + open)?);
+                            frames.push(self.frame(token, tag, before + open)?);
                             continue;
                         }
                     }
@@ -173,11 +175,12 @@ impl<'a> Reader<'a> {
     fn leaf(&mut self, token: Token, open: usize) -> Result<Node> {
         let kind = self.kind_of(&KINDS, token).filter(|_| LEAVES.iter().any(|word| self.is(token, word)));
         self.full_if("leaf-is-a-frame", 7, open == 512 && kind.is_some())?;
-        Ok(Node { kind: kind.ok_or(malformed(token))?, tag: token, atom: None, children: Vec::new() })
+        let offset = if is("leaf-without-offset") { 0 } else { token.start };
+        Ok(Node { kind: kind.ok_or(malformed(token))?, offset, tag: token, atom: None, children: Vec::new() })
     }
 
-    /// A ref or universe; None for another tag.
-    fn small(&mut self, tag: Token, open: usize) -> Result<Option<Node>> {
+    /// A ref or universe behind its parenthesis; None for another tag.
+    fn small(&mut self, parenthesis: Token, tag: Token, open: usize) -> Result<Option<Node>> {
         let Some(word) = ["ref", "universe"].into_iter().find(|word| self.is(tag, word)) else {
             return Ok(None);
         };
@@ -186,11 +189,12 @@ impl<'a> Reader<'a> {
         self.full_if("eight-before-parenthesis", 8, self.read.nodes.len() == self.rows)?;
         self.expect(Kind::RParen)?;
         let kind = kind_number(&KINDS, word).expect("a kind");
-        Ok(Some(Node { kind, tag, atom: Some(atom), children: Vec::new() }))
+        let offset = if is("offset-of-the-atom") { atom.start } else { offset(parenthesis, tag) };
+        Ok(Some(Node { kind, offset, tag, atom: Some(atom), children: Vec::new() }))
     }
 
     /// Opens the frame of this number: its arity, and the node to be filled.
-    fn frame(&mut self, tag: Token, number: usize) -> Result<(usize, Node)> {
+    fn frame(&mut self, parenthesis: Token, tag: Token, number: usize) -> Result<(usize, Node)> {
         let form = FORMS.iter().find(|form| self.is(tag, form.word)).ok_or(malformed(tag))?;
         let limit = match fault() {
             "frames-511" => 511,
@@ -209,7 +213,7 @@ impl<'a> Reader<'a> {
         self.read.forms = true;
         let arity = if is("j-of-five") { form.arity.min(5) } else { form.arity };
         let kind = kind_number(&KINDS, form.word).expect("a kind");
-        Ok((arity, Node { kind, tag, atom, children: Vec::new() }))
+        Ok((arity, Node { kind, offset: offset(parenthesis, tag), tag, atom, children: Vec::new() }))
     }
 
     fn store(&mut self, node: Node) -> Result<usize> {
@@ -269,6 +273,11 @@ impl<'a> Reader<'a> {
     fn kind_of(&self, kinds: &[&str], token: Token) -> Option<u32> {
         kinds.iter().find_map(|word| kind_number(kinds, word).filter(|_| self.is(token, word)))
     }
+}
+
+/// Where a form starts: at its parenthesis.
+fn offset(parenthesis: Token, tag: Token) -> usize {
+    if is("offset-of-the-tag") { tag.start } else { parenthesis.start }
 }
 
 pub fn bytes(source: &[u8], token: Token) -> &[u8] {

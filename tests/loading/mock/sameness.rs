@@ -1,6 +1,6 @@
 //! The same-core question over the words that two loads leave.
 use super::{Module, leave, read_and_resolve, report};
-use crate::loading::tables::{RECORD, ROW, Tables};
+use crate::loading::tables::{OFFSET, RECORD, ROW, Tables};
 use common::fault::{fault, is};
 use common::refusal::Refusal;
 
@@ -76,8 +76,9 @@ fn declaration<'a>((source, module): Side<'a>, at: usize) -> Counts<'a> {
     (kind, name, rows.map(|at| row(source, &module.core[at * ROW..][..ROW])).collect())
 }
 
-/// A universe, of kind 3, counts by its digits.
+/// A universe, of kind 3, counts by its digits. Where a term starts does not count.
 fn row<'a>(source: &'a [u8], words: &[u32]) -> (Vec<u32>, &'a [u8]) {
+    let words = if is("offsets-compared") { words } else { &words[..OFFSET] };
     match (words[0], fault()) {
         (3, "digits-not-compared") => (vec![3], &[]),
         (3, "digits-by-place") => (words.to_vec(), &[]),

@@ -1,7 +1,7 @@
 //! Rows and records as words.
 use super::reading::{Declared, Node, Read};
 use super::resolving::Referent;
-use crate::loading::tables::{RECORD, ROW};
+use crate::loading::tables::{OFFSET, RECORD, ROW};
 use common::fault::is;
 use common::tokens::Token;
 use common::vocabulary::{KINDS, kind_number};
@@ -40,25 +40,27 @@ fn surface_row(node: &Node, children: &[u32]) -> [u32; ROW] {
     let tag = is("span-of-the-tag").then_some(node.tag);
     let atom = node.atom.map(|atom| span(tag.unwrap_or(atom)).to_vec()).unwrap_or_default();
     let fields = if is("binder-behind-children") { [children, &atom[..]] } else { [&atom[..], children] };
-    padded(node.kind, &fields.concat())
+    padded(node.kind, &fields.concat(), node.offset)
 }
 
 fn core_row(node: &Node, referent: Option<Referent>, children: &[u32]) -> [u32; ROW] {
     let kind = |word: &str| kind_number(&KINDS, word).expect("a kind");
+    let offset = if is("core-without-offset") { 0 } else { node.offset };
     match referent {
         Some(_) if is("core-keeps-ref") => surface_row(node, children),
-        Some(Referent::Var(count)) => padded(kind("var"), &[count as u32]),
-        Some(Referent::Global(place)) => padded(kind("global"), &[place as u32]),
+        Some(Referent::Var(count)) => padded(kind("var"), &[count as u32], offset),
+        Some(Referent::Global(place)) => padded(kind("global"), &[place as u32], offset),
         None if is("core-children-as-in-surface") => surface_row(node, children),
         None if node.kind == kind("universe") && !is("core-universe-without-span") => surface_row(node, children),
-        None => padded(node.kind, children),
+        None => padded(node.kind, children, offset),
     }
 }
 
-fn padded(kind: u32, fields: &[u32]) -> [u32; ROW] {
+fn padded(kind: u32, fields: &[u32], offset: usize) -> [u32; ROW] {
     let mut row = [0; ROW];
     row[0] = kind;
     row[1..=fields.len()].copy_from_slice(fields);
+    row[OFFSET] = offset as u32;
     row
 }
 
