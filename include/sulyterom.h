@@ -43,9 +43,9 @@
 
 /* The version of this header and of the library beside it. */
 #define SULYTEROM_VERSION_MAJOR 0
-#define SULYTEROM_VERSION_MINOR 1
+#define SULYTEROM_VERSION_MINOR 2
 #define SULYTEROM_VERSION_PATCH 0
-#define SULYTEROM_VERSION_TEXT "0.1.0"
+#define SULYTEROM_VERSION_TEXT "0.2.0"
 
 #ifdef __cplusplus
 extern "C" {
@@ -62,6 +62,7 @@ extern "C" {
    these are 21,845 rows and 3,855 records. Most sources need much less. Spare words are set to 0 in every call,
    which takes time. */
 #define SULYTEROM_ROW_WORDS 8
+#define SULYTEROM_ROW_OFFSET 7 /* the word of a row that says where its term starts */
 #define SULYTEROM_RECORD_WORDS 5
 #define SULYTEROM_WORK_WORDS 16384
 #define SULYTEROM_ANSWER_WORDS 3
@@ -97,7 +98,9 @@ typedef enum sulyterom_class {
 
 /* The kind of a row, its first word. Row k of a table begins at word k * SULYTEROM_ROW_WORDS. Rows are numbered
    from 0 in the order in which terms end, so a row's children have lower numbers than itself. Core row k stands for
-   the same term as surface row k. Behind the kind stand, in this order, and then 0:
+   the same term as surface row k. The last word, SULYTEROM_ROW_OFFSET, of a row in either table is the offset of the
+   term's first byte in the source: of its opening parenthesis, or of the word where it is empty, unit, star, nat or
+   zero. Behind the kind stand, in this order, and then 0 up to it:
 
        kind                     surface row                         core row
        ref                      start and length of the name
@@ -253,7 +256,8 @@ uint8_t sulyterom_same(const uint8_t *first, size_t first_length, const uint8_t 
    take; there are no words left over. A list of n records is refused with 9 for a source with more declarations. */
 typedef struct sulyterom_row {
     uint32_t kind; /* sulyterom_kind */
-    uint32_t fields[SULYTEROM_ROW_WORDS - 1];
+    uint32_t fields[SULYTEROM_ROW_OFFSET - 1];
+    uint32_t offset; /* of the term's first byte in the source */
 } sulyterom_row;
 
 typedef struct sulyterom_declaration {

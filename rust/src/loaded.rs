@@ -1,6 +1,6 @@
 //! What a load leaves, to be looked at.
 use crate::library::Told;
-use crate::{Declaration, RECORD_WORDS, ROW_WORDS, Reference, Refusal, Row, SurfaceRow, Tables};
+use crate::{Declaration, RECORD_WORDS, ROW_WORDS, Reference, Refusal, Row, SurfaceRow, Tables, TokenKind, tokens};
 use core::fmt;
 
 /// A source that was loaded, and what the tables hold of it.
@@ -107,6 +107,51 @@ impl<'a> Loaded<'a> {
     pub fn surface_rows(&self) -> impl ExactSizeIterator<Item = SurfaceRow<'a>> + DoubleEndedIterator + use<'a> {
         let source = self.source;
         self.surface.chunks_exact(ROW_WORDS).map(move |words| SurfaceRow::new(source, words))
+    }
+
+    /// The offset in the source at which the term of a row starts: that of its opening parenthesis, or of its word where it
+    /// is `empty`, `unit`, `star`, `nat` or `zero`. The surface row and the core row with a number have the same one.
+    ///
+    /// ```
+    /// # use sulyterom::{Tables, load};
+    /// let source = b"(surface 0 1)(module m)(postulate f (pi n nat (ref n)))";
+    /// let mut tables = Tables::with_sizes(3, 1);
+    /// let loaded = load(source, &mut tables)?;
+    /// assert_eq!(loaded.offsets().collect::<Vec<_>>(), [42, 46, 36]);
+    /// assert_eq!((loaded.offset(2), loaded.offset(3)), (Some(36), None));
+    /// # Ok::<(), sulyterom::Refusal>(())
+    /// ```
+    pub fn offset(&self, number: usize) -> Option<usize> {
+        self.offsets().nth(number)
+    }
+
+    /// The offsets at which the terms of the rows start, by number from 0.
+    pub fn offsets(&self) -> impl ExactSizeIterator<Item = usize> + DoubleEndedIterator + use<'a> {
+        self.core.chunks_exact(ROW_WORDS).map(|words| words[ROW_WORDS - 1] as usize)
+    }
+
+    /// The term of a row as it is written, from its first byte to its last.
+    ///
+    /// ```
+    /// # use sulyterom::{Tables, load};
+    /// let source = b"(surface 0 1)(module m)(postulate f (pi n nat (ref ;\n n)))";
+    /// let mut tables = Tables::with_sizes(3, 1);
+    /// let loaded = load(source, &mut tables)?;
+    /// assert_eq!((loaded.term(0), loaded.term(1)), (Some(&b"nat"[..]), Some(&b"(ref ;\n n)"[..])));
+    /// # Ok::<(), sulyterom::Refusal>(())
+    /// ```
+    pub fn term(&self, number: usize) -> Option<&'a [u8]> {
+        let from = &self.source[self.offset(number)?..];
+        let mut open = 0;
+        let end = tokens(from).map_while(Result::ok).find(|token| {
+            match token.kind {
+                TokenKind::LeftParenthesis => open += 1,
+                TokenKind::RightParenthesis => open -= 1,
+                _ => {}
+            }
+            open == 0
+        });
+        end.map(|token| &from[..token.end])
     }
 
     /// The declaration at a place.

@@ -17,7 +17,7 @@ use alloc::vec::Vec;
 /// let mut tables = Tables::from_words(&mut surface[..], &mut core[..], &mut declarations[..], &mut work[..]);
 /// load(b"(surface 0 1)(module m)(postulate a (succ zero))", &mut tables)?;
 /// load(b"(surface 0 1)(module m)(postulate b (succ (succ zero)))", &mut tables)?;
-/// assert_eq!(core, [20, 0, 0, 0, 0, 0, 0, 0, 21, 0, 0, 0, 0, 0, 0, 0, 21, 1, 0, 0, 0, 0, 0, 0]);
+/// assert_eq!(core, [20, 0, 0, 0, 0, 0, 0, 48, 21, 0, 0, 0, 0, 0, 0, 42, 21, 1, 0, 0, 0, 0, 0, 36]);
 /// # Ok::<(), sulyterom::Refusal>(())
 /// ```
 #[derive(Clone, Debug, Eq, PartialEq)]

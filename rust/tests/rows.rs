@@ -190,3 +190,12 @@ fn references_in_the_order_of_the_source() {
     assert!(starts.is_sorted());
     assert_eq!((loaded.place_of(b"b"), loaded.place_of(b"z")), (Some(1), None));
 }
+
+#[test]
+fn both_tables_say_where_a_term_starts() {
+    let mut tables = Tables::for_bytes(KINDS.len());
+    let rows = load(KINDS.as_bytes(), &mut tables).unwrap().row_count();
+    let last = |table: &[u32]| table.chunks_exact(8).take(rows).map(|row| row[7]).collect::<Vec<_>>();
+    assert_eq!(last(tables.surface()), last(tables.core()));
+    assert!(tables.surface()[rows * 8..].iter().chain(&tables.core()[rows * 8..]).all(|word| *word == 0));
+}

@@ -4,9 +4,9 @@ use sulyterom::{Class, Comparison, LONGEST_SOURCE, Loader, RECORD_WORDS, ROW_WOR
 const HEAD: &str = "(surface 0 1)(module m)";
 const INPUT: &[u8] = b"(surface 0 1)(module m)(postulate x nat)(postulate y (pi x (ref x) (ref x)))";
 const SURFACE: [u32; 32] =
-    [19, 0, 0, 0, 0, 0, 0, 0, 24, 64, 1, 0, 0, 0, 0, 0, 24, 72, 1, 0, 0, 0, 0, 0, 4, 57, 1, 1, 2, 0, 0, 0];
+    [19, 0, 0, 0, 0, 0, 0, 36, 24, 64, 1, 0, 0, 0, 0, 59, 24, 72, 1, 0, 0, 0, 0, 67, 4, 57, 1, 1, 2, 0, 0, 53];
 const CORE: [u32; 32] =
-    [19, 0, 0, 0, 0, 0, 0, 0, 2, 0, 0, 0, 0, 0, 0, 0, 1, 0, 0, 0, 0, 0, 0, 0, 4, 1, 2, 0, 0, 0, 0, 0];
+    [19, 0, 0, 0, 0, 0, 0, 36, 2, 0, 0, 0, 0, 0, 0, 59, 1, 0, 0, 0, 0, 0, 0, 67, 4, 1, 2, 0, 0, 0, 0, 53];
 const DECLARATIONS: [u32; 10] = [1, 34, 1, 0, 0, 1, 51, 1, 3, 0];
 
 /// The words, and 0 behind.

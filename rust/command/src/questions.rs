@@ -5,7 +5,7 @@ use crate::source::Source;
 use std::ffi::OsStr;
 use std::fmt::Write;
 use std::path::Path;
-use sulyterom::{Class, Comparison, LONGEST_SOURCE, Loader, Refusal, Tables, Target, TokenKind};
+use sulyterom::{Class, Comparison, LONGEST_SOURCE, Loaded, Loader, Refusal, Tables, Target, TokenKind};
 
 /// "It lends 1,024 rows to each row table, 256 declarations and a work area of 16,384 words."
 pub const ROWS: usize = 1_024;
@@ -83,27 +83,42 @@ pub fn list(storage: Storage, file: &OsStr) -> Result<Answer, NotAsked> {
     })
 }
 
-pub fn references(file: &OsStr) -> Result<Answer, NotAsked> {
+/// Loads a source with enough storage, and prints the lines that are told of it.
+fn told(file: &OsStr, lines: impl FnOnce(&Source, Loaded<'_>) -> String) -> Result<Answer, NotAsked> {
     let source = Source::read(file)?;
-    let mut loader = Loader::new();
-    let loaded = match loader.load(&source.bytes) {
-        Ok(loaded) => loaded,
-        Err(refusal) => return Ok(refused(&source, refusal, Storage::Large)),
-    };
-    let mut text = String::new();
-    for reference in loaded.references() {
-        let name = reference.name;
-        let _ = write!(text, "{} {name} ", source.position(name.start));
-        let _ = match reference.target {
-            Target::Var { count } => writeln!(text, "var {count}"),
-            Target::Global { place } => {
-                let named = loaded.declaration(place).expect("a global's place is a declaration's").name;
-                writeln!(text, "global {place} {named}")
-            }
-            _ => unreachable!("a reference is a var or a global"),
-        };
-    }
-    Ok(Answer::new(Status::Yes, text))
+    Ok(match Loader::new().load(&source.bytes) {
+        Ok(loaded) => Answer::new(Status::Yes, lines(&source, loaded)),
+        Err(refusal) => refused(&source, refusal, Storage::Large),
+    })
+}
+
+pub fn rows(file: &OsStr) -> Result<Answer, NotAsked> {
+    told(file, |source, loaded| {
+        let mut text = String::new();
+        for (number, (offset, row)) in loaded.offsets().zip(loaded.rows()).enumerate() {
+            let _ = writeln!(text, "{} {number} {row}", source.position(offset));
+        }
+        text
+    })
+}
+
+pub fn references(file: &OsStr) -> Result<Answer, NotAsked> {
+    told(file, |source, loaded| {
+        let mut text = String::new();
+        for reference in loaded.references() {
+            let name = reference.name;
+            let _ = write!(text, "{} {name} ", source.position(name.start));
+            let _ = match reference.target {
+                Target::Var { count } => writeln!(text, "var {count}"),
+                Target::Global { place } => {
+                    let named = loaded.declaration(place).expect("a global's place is a declaration's").name;
+                    writeln!(text, "global {place} {named}")
+                }
+                _ => unreachable!("a reference is a var or a global"),
+            };
+        }
+        text
+    })
 }
 
 pub fn depends(file: &OsStr, i: Declaration<'_>, j: Declaration<'_>) -> Result<Answer, NotAsked> {
