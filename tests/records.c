@@ -162,6 +162,23 @@ static void tokens(void) {
     check(told.refused == 0 && told.kind == SULYTEROM_END && told.start == length && told.end == length, "a token", length, 0);
 }
 
+/* Where terms start, by the rows of both tables. */
+static void offsets(void) {
+    static const char source[] = HEAD "(postulate x nat)(postulate y (pi x (ref x) (ref x)))";
+    static const char *const terms[] = {"nat", "(ref x) ", "(ref x))", "(pi x (ref x) (ref x))"};
+    fill(&structs);
+    sulyterom_tables tables = lent(&structs, 2);
+    sulyterom_loaded told = sulyterom_load_into((const uint8_t *)source, sizeof source - 1, &tables);
+    check(told.rows == 4, "rows with offsets", sizeof source - 1, 2);
+    for (size_t k = 0; k < told.rows; k++) {
+        const char *term = strstr(source, terms[k]);
+        check(term && structs.surface[k].offset == (size_t)(term - source), "the offset of a surface row", k, 2);
+        check(structs.core[k].offset == structs.surface[k].offset, "the offset of a core row", k, 2);
+        check((&structs.core[k].kind)[SULYTEROM_ROW_OFFSET] == structs.core[k].offset, "the word of the offset", k, 2);
+    }
+    check(structs.surface[4].offset == 0 && structs.core[4].offset == 0, "the offset of a spare row", 4, 2);
+}
+
 /* Every class has words of its own, and other numbers have none. */
 static void classes(void) {
     for (int k = 0; k <= 12; k++) {
@@ -194,6 +211,7 @@ static size_t module(size_t wanted) {
 int main(void) {
     classes();
     tokens();
+    offsets();
     lists(HEAD "(postulate x nat)(postulate y (pi x (ref x) (ref x)))",
           "nodes 4 declarations 2\n0 nat\n1 global 0\n2 var 0\n3 pi 1 2\n0 postulate x 0\n1 postulate y 3\n",
           SULYTEROM_ACCEPTED);

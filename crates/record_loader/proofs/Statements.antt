@@ -3,17 +3,20 @@ use mathlib.Core.Path.{sym, subst}
 use mathlib.Core.List.{List}
 use Prim.Native.Nat.{ℕ}
 use Rattle.surface.specs.Reports.{Report}
-use Rattle.surface.proofs.Statements.{demand-3-in, load-reports, ask-reports}
+use Rattle.surface.proofs.Statements.{demand-3-in, row-offsets, load-reports, ask-reports}
 use Rattle.loader.proofs.Statements.{parse-reports}
 use Rattle.records.specs.declared.Declaration.{Declaration}
 use Rattle.record_loader.specs.declared.Question.{Question}
 use Rattle.record_loader.specs.declared.Reply.{Reply}
 use Rattle.record_loader.specs.Recorded.{list-words}
 use Rattle.record_loader.specs.Replies.{loaded-of, parsed-of, dependence-of, without-core}
-use Rattle.record_loader.specs.Statements.{Demand3Records, report-reply, ReplyingReports, ReplyReports}
+use Rattle.record_loader.specs.Statements.{worded, Demand3Records, RowOffsetsRecords, report-reply, ReplyingReports, ReplyReports}
 
 pub demand-3-records : Demand3Records
 demand-3-records s t before₁ before₂ a b after₁ after₂ h k = demand-3-in (List Declaration) list-words s t before₁ before₂ a b after₁ after₂ (h .1) (k .1)
+
+pub row-offsets-records : RowOffsetsRecords
+row-offsets-records s before a after h = row-offsets s (worded before) a (worded after) (h .1)
 
 pub reply-reports : ReplyReports
 reply-reports s Question.Load before r after h =

@@ -11,7 +11,7 @@ use Rattle.surface.specs.Loading.{parsing, loading}
 use Rattle.surface.specs.SameCore.{SameCore, Accepts}
 use Rattle.surface.specs.Agreement.{Agreement}
 use Rattle.surface.specs.Dependence.{asking}
-use Rattle.surface.specs.Statements.{loading-reports, AskingReports}
+use Rattle.surface.specs.Statements.{RowsBegin, loading-reports, AskingReports}
 use Rattle.loader.specs.Parsed.{report-read}
 use Rattle.records.specs.declared.Declaration.{Declaration}
 use Rattle.record_loader.specs.declared.Question.{Question}
@@ -34,6 +34,12 @@ Demand3Records =
     → Replies s Question.Load (worded before₁) (Reply.Loaded a) (worded after₁) → Replies t Question.Load (worded before₂) (Reply.Loaded b) (worded after₂)
     → Accepts (leaves a (worded after₁)) → Accepts (leaves b (worded after₂))
     → SameCore s (leaves a (worded after₁)) t (leaves b (worded after₂)) ↔ Agreement s t
+
+-- DOCUMENT 02, REQ 01, about such a load that accepts its source.
+abbrev pub RowOffsetsRecords : Type 0
+RowOffsetsRecords =
+    (s : List ℕ) (before : Lent) (a : Answer) (after : Lent) → Replies s Question.Load (worded before) (Reply.Loaded a) (worded after)
+    → Accepts (leaves a (worded after)) → RowsBegin s (leaves a (worded after))
 
 -- The number and values of a reply are those of the answer that it holds.
 abbrev pub report-reply : Reply → Report

@@ -13,7 +13,7 @@ use Rattle.terms.specs.Forms.{universe, ref, arity-of}
 use Rattle.terms.specs.Tree.{Forest, nil, node, Tree, tree, maybe, Cell, cells, next, roots, relabel, relabel-tree}
 use Rattle.terms.specs.Label.{Name, part, Label, Declaration, trees, Terms, named, declared-name, named-declaration}
 use Rattle.terms.specs.Resolution.{find, Core, kept, var, global, unknown, referent, core-of, locals-in, Resolved, resolve, resolve-declaration, resolve-module}
-use Rattle.terms.specs.Rows.{pad, core-words, core-row, core-rows, declaration-records}
+use Rattle.terms.specs.Rows.{pad, row, core-fields, core-words, core-row, core-rows, declaration-records}
 use Rattle.terms.specs.Content.{RowContent, row-content, record-content}
 use Rattle.terms.proofs.FormTable.{arity-universe}
 use Rattle.terms.proofs.Cells.{recell, next-relabel, roots-relabel, cells-relabel}
@@ -72,25 +72,29 @@ resolve-cells s e g n f = sym (cells-relabel (λ r. r .label) n (resolve s e g f
 pub resolve-next : (s : List ℕ) (e : ℕ → List Name) (g : List Name) (n : ℕ) (f : Forest Label) → next n (resolve s e g f) ≡ next n f
 resolve-next s e g n f = sym (next-relabel (λ r. r .label) n (resolve s e g f)) ∙ ap (next n) (resolve-labels s e g f)
 
--- What counts of a row is what counts of the row with names.
-content-of : (s : List ℕ) (l : Label) (c : Core) (k : List ℕ) → Fits (bytes-core s l c) (length k) → row-content s (core-words l c k) ≡ row-of (bytes-core s l c) k
-content-of s l kept k f = go (eqb (l .kind) universe) refl
+-- What counts of a row is what counts of the row with names, whatever its offset.
+kept-content : (s : List ℕ) (l : Label) (k : List ℕ) (offset : ℕ) → Fits (bytes-core s l kept) (length k)
+    → row-content s (row (l .kind) (core-fields l kept k) offset) ≡ row-of (bytes-core s l kept) k
+kept-content s l k offset f = go (eqb (l .kind) universe) refl
   where
     at : List ℕ → List ℕ → RowContent
     at d w = record { kind = l .kind; digits = d; fields = w }
 
     words : Bool → List ℕ
-    words b = pad 6 (cond b (l .start ∷ l .length ∷ []) [] ++ k) ++ (l .offset ∷ [])
+    words b = pad 6 (cond b (l .start ∷ l .length ∷ []) [] ++ k) ++ (offset ∷ [])
 
     go : (b : Bool) → eqb (l .kind) universe ≡ b → row-content s (l .kind ∷ words b) ≡ at (cond b (part s (l .start) (l .length)) []) (pad 6 k)
     go true q =
         let z : k ≡ [] = no-children k (f .1 ∙ ap arity-of (eqb-true (l .kind) universe q) ∙ arity-universe) in
         ap (λ (b : Bool). cond b (at (part s (l .start) (l .length)) (0 ∷ 0 ∷ drop 2 (take 6 (words true)))) (at [] (take 6 (words true)))) q
-        ∙ ap (λ (x : List ℕ). at (part s (l .start) (l .length)) (0 ∷ 0 ∷ take 4 (pad 4 x ++ (l .offset ∷ [])))) z
+        ∙ ap (λ (x : List ℕ). at (part s (l .start) (l .length)) (0 ∷ 0 ∷ take 4 (pad 4 x ++ (offset ∷ [])))) z
         ∙ ap (λ (x : List ℕ). at (part s (l .start) (l .length)) (pad 6 x)) (sym z)
     go false q =
         ap (λ (b : Bool). cond b (at (part s (getD (words false) 0 0) (getD (words false) 1 0)) (0 ∷ 0 ∷ drop 2 (take 6 (words false)))) (at [] (take 6 (words false)))) q
-        ∙ ap (at []) (six-fields k (l .offset))
+        ∙ ap (at []) (six-fields k offset)
+
+content-of : (s : List ℕ) (l : Label) (c : Core) (k : List ℕ) → Fits (bytes-core s l c) (length k) → row-content s (core-words l c k) ≡ row-of (bytes-core s l c) k
+content-of s l kept k f = kept-content s l k _ f
 content-of s l (var i) k f = refl
 content-of s l (global j) k f = refl
 content-of s l unknown k f = absurd f

@@ -16,7 +16,7 @@ use Rattle.terms.proofs.Tables.{length-pad, Wide, wide-append}
 use Rattle.terms.proofs.RowFields.{length-row}
 
 pub length-core-words : (l : Label) (c : Core) (k : List ℕ) → length (core-words l c k) ≡ 8
-length-core-words l c k = length-row (core-kind l c) (core-fields l c k) (l .offset)
+length-core-words l c k = length-row (core-kind l c) (core-fields l c k) _
 
 pub length-surface-row : (c : Cell Label) → length (surface-row c) ≡ 8
 length-surface-row c = length-row (c .label .kind) (cond (holds-span (c .label .kind)) (span (c .label)) [] ++ c .children) (c .label .offset)
