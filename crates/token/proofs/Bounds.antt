@@ -6,11 +6,12 @@ use mathlib.Core.List.{List, [], _∷_}
 use native.Mathlib.Omega.{arith}
 use lib.ListN.{length, drop, length-drop}
 use lib.Dec.{eqb}
-use Rattle.token.specs.Token.{byte-class, layout-end, atom-from, token-here, next-token, token, malformed}
+use Rattle.token.specs.Token.{byte-class, layout-end, atom-from, token-here, next-token}
 use Rattle.token.specs.declared.ByteClass.{ByteClass}
 use Rattle.token.specs.declared.ByteClass.the-variants.{Layout, Comment, LParen, RParen, Atom, Refused}
 use Rattle.token.specs.declared.TokenKind.{TokenKind}
 use Rattle.token.specs.declared.Lexed.{Lexed}
+use Rattle.token.proofs.Outcomes.{atom-by, here-by}
 
 pub record Span (lo a e hi : ℕ) : Type 0 where
   pub low : lo ≤ a
@@ -52,48 +53,19 @@ layout-span (b ∷ l) false at lo hi h k =
     layout-by (λ n. (lo ≤ n) × (n ≤ hi)) (byte-class b) at _ _ (h, omega arith)
     (layout-span l false (at + 1) lo hi (omega arith) (omega arith)) (layout-span l true (at + 1) lo hi (omega arith) (omega arith))
 
-atom-by : (k : ByteClass) (lo start at hi : ℕ) (o : Lexed) → lo ≤ start → start < at → at ≤ hi → Within lo hi o
-    → Within lo hi (elim k as (λ _. Lexed) [
-      | Layout ↦ token TokenKind.Atom start at
-      | Comment ↦ token TokenKind.Atom start at
-      | LParen ↦ token TokenKind.Atom start at
-      | RParen ↦ token TokenKind.Atom start at
-      | Atom ↦ o
-      | Refused ↦ malformed at
-    ])
-atom-by Layout lo start at hi o h p q w = record { low = h; some = p; high = q }
-atom-by Comment lo start at hi o h p q w = record { low = h; some = p; high = q }
-atom-by LParen lo start at hi o h p q w = record { low = h; some = p; high = q }
-atom-by RParen lo start at hi o h p q w = record { low = h; some = p; high = q }
-atom-by Atom lo start at hi o h p q w = w
-atom-by Refused lo start at hi o h p q w = tt
-
 atom-span : (l : List ℕ) (lo start at hi : ℕ) → lo ≤ start → start < at → at + length l ≡ hi → Within lo hi (atom-from start at l)
 unfolding atom-from
 atom-span [] lo start at hi h p q = record { low = h; some = p; high = omega arith }
-atom-span (b ∷ l) lo start at hi h p q = atom-by (byte-class b) lo start at hi _ h p (omega arith) (atom-span l lo start (at + 1) hi h (omega arith) (omega arith))
-
-here-by : (k : ByteClass) (lo at hi : ℕ) (o : Lexed) → lo ≤ at → at < hi → Within lo hi o
-    → Within lo hi (elim k as (λ _. Lexed) [
-      | Layout ↦ malformed at
-      | Comment ↦ malformed at
-      | LParen ↦ token TokenKind.LParen at (at + 1)
-      | RParen ↦ token TokenKind.RParen at (at + 1)
-      | Atom ↦ o
-      | Refused ↦ malformed at
-    ])
-here-by Layout lo at hi o h p w = tt
-here-by Comment lo at hi o h p w = tt
-here-by LParen lo at hi o h p w = record { low = h; some = omega arith; high = omega arith }
-here-by RParen lo at hi o h p w = record { low = h; some = omega arith; high = omega arith }
-here-by Atom lo at hi o h p w = w
-here-by Refused lo at hi o h p w = tt
+atom-span (b ∷ l) lo start at hi h p q =
+    atom-by (Within lo hi) (byte-class b) start at _ (record { low = h; some = p; high = omega arith }) tt (atom-span l lo start (at + 1) hi h (omega arith) (omega arith))
 
 -- The list stands at p, and ends at hi unless it is empty.
 here-span : (l : List ℕ) (lo p hi : ℕ) → lo ≤ p → (lo ≤ hi → p ≤ hi) → length l ≡ hi - p → Within lo hi (token-here p l)
 unfolding token-here
 here-span [] lo p hi h k e = λ f. let g : p ≤ hi = k f in (omega arith, omega arith)
-here-span (b ∷ l) lo p hi h k e = here-by (byte-class b) lo p hi _ h (omega arith) (atom-span l lo p (p + 1) hi h (omega arith) (omega arith))
+here-span (b ∷ l) lo p hi h k e =
+    let one : Span lo p (p + 1) hi = record { low = h; some = omega arith; high = omega arith } in
+    here-by (Within lo hi) (byte-class b) p _ tt (λ q. one) one (atom-span l lo p (p + 1) hi h (omega arith) (omega arith))
 
 pub bounds : (s : List ℕ) (at : ℕ) → Within at (length s) (next-token s at)
 unfolding next-token

@@ -4,13 +4,12 @@ use mathlib.Core.Path.{_≡_, refl, _∙_, ap, subst}
 use mathlib.Core.List.{List, [], _∷_}
 use mathlib.Core.Bool.{false}
 use lib.ListN.{take, drop}
-use Rattle.token.specs.Token.{byte-class, layout-end, malformed, token, atom-from, token-here, next-token}
-use Rattle.token.specs.declared.ByteClass.{ByteClass}
-use Rattle.token.specs.declared.ByteClass.the-variants.{Layout, Comment, LParen, RParen, Atom, Refused}
+use Rattle.token.specs.Token.{byte-class, layout-end, atom-from, token-here, next-token}
 use Rattle.token.specs.declared.TokenKind.{TokenKind}
 use Rattle.token.specs.declared.Token.{Token}
 use Rattle.token.specs.declared.Lexed.{Lexed}
 use Rattle.token.proofs.Classes.{open-byte}
+use Rattle.token.proofs.Outcomes.{atom-by, here-by}
 
 module _ (s : List ℕ) where
   -- What is known of the byte at an offset, by the kind of the token that starts there.
@@ -24,47 +23,15 @@ module _ (s : List ℕ) where
   Shows (Lexed.Got t) = ByteOf (t .kind) (t .start)
   Shows (Lexed.Refused r) = Unit {0}
 
-  atom-by : (k : ByteClass) (start at : ℕ) (o : Lexed) → Shows o
-      → Shows (elim k as (λ _. Lexed) [
-        | Layout ↦ token TokenKind.Atom start at
-        | Comment ↦ token TokenKind.Atom start at
-        | LParen ↦ token TokenKind.Atom start at
-        | RParen ↦ token TokenKind.Atom start at
-        | Atom ↦ o
-        | Refused ↦ malformed at
-      ])
-  atom-by Layout start at o w = tt
-  atom-by Comment start at o w = tt
-  atom-by LParen start at o w = tt
-  atom-by RParen start at o w = tt
-  atom-by Atom start at o w = w
-  atom-by Refused start at o w = tt
-
   atom-shows : (start at : ℕ) (l : List ℕ) → Shows (atom-from start at l)
   unfolding atom-from
   atom-shows start at [] = tt
-  atom-shows start at (b ∷ l) = atom-by (byte-class b) start at _ (atom-shows start (at + 1) l)
-
-  here-by : (k : ByteClass) (b p : ℕ) (l : List ℕ) (o : Lexed) → byte-class b ≡ k → drop p s ≡ b ∷ l → Shows o
-      → Shows (elim k as (λ _. Lexed) [
-        | Layout ↦ malformed p
-        | Comment ↦ malformed p
-        | LParen ↦ token TokenKind.LParen p (p + 1)
-        | RParen ↦ token TokenKind.RParen p (p + 1)
-        | Atom ↦ o
-        | Refused ↦ malformed p
-      ])
-  here-by Layout b p l o e d w = tt
-  here-by Comment b p l o e d w = tt
-  here-by LParen b p l o e d w = ap (take 1) d ∙ ap {B = List ℕ} (λ x. x ∷ []) (open-byte b e)
-  here-by RParen b p l o e d w = tt
-  here-by Atom b p l o e d w = w
-  here-by Refused b p l o e d w = tt
+  atom-shows start at (b ∷ l) = atom-by Shows (byte-class b) start at _ tt tt (atom-shows start (at + 1) l)
 
   here-shows : (p : ℕ) (l : List ℕ) → drop p s ≡ l → Shows (token-here p l)
   unfolding token-here
   here-shows p [] d = tt
-  here-shows p (b ∷ l) d = here-by (byte-class b) b p l _ refl d (atom-shows p (p + 1) l)
+  here-shows p (b ∷ l) d = here-by Shows (byte-class b) p _ tt (λ e. ap (take 1) d ∙ ap {B = List ℕ} (λ x. x ∷ []) (open-byte b e)) tt (atom-shows p (p + 1) l)
 
   token-shows : (at : ℕ) → Shows (next-token s at)
   unfolding next-token
