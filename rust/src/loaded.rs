@@ -122,12 +122,12 @@ impl<'a> Loaded<'a> {
     /// # Ok::<(), sulyterom::Refusal>(())
     /// ```
     pub fn offset(&self, number: usize) -> Option<usize> {
-        self.offsets().nth(number)
+        self.core.chunks_exact(ROW_WORDS).nth(number).map(start)
     }
 
     /// The offsets at which the terms of the rows start, by number from 0.
     pub fn offsets(&self) -> impl ExactSizeIterator<Item = usize> + DoubleEndedIterator + use<'a> {
-        self.core.chunks_exact(ROW_WORDS).map(|words| words[ROW_WORDS - 1] as usize)
+        self.core.chunks_exact(ROW_WORDS).map(start)
     }
 
     /// The term of a row as it is written, from its first byte to its last.
@@ -184,6 +184,11 @@ impl<'a> Loaded<'a> {
         let both = self.surface_rows().zip(self.rows()).enumerate();
         both.filter_map(|(row, (read, core))| Reference::of(row, read, core))
     }
+}
+
+/// The last word of a row.
+fn start(row: &[u32]) -> usize {
+    row[ROW_WORDS - 1] as usize
 }
 
 impl fmt::Display for Loaded<'_> {

@@ -7,7 +7,7 @@ use native.Mathlib.Omega.{arith}
 use lib.Dec.{eqb}
 use borrow.Author.Tests.{eq-eqb, ne-eqb}
 use native.Mathlib.Decide.{ℕ-discrete}
-use lib.ListN.{length, getD, take, drop, length-drop}
+use lib.ListN.{length, take, drop, length-drop}
 use Rattle.terms.specs.Forms.{universe, arity-of}
 use Rattle.terms.specs.Label.{Label}
 use Rattle.terms.specs.Resolution.{Core, is-unknown}
@@ -42,17 +42,6 @@ take-pad m [] (suc n) e h = absurd (omega arith)
 take-pad m (x ∷ l) zero e h = absurd (omega arith)
 take-pad zero (x ∷ l) (suc n) e h = absurd (omega arith)
 take-pad (suc m) (x ∷ l) (suc n) e h = ap (λ (r : List ℕ). x ∷ r) (take-pad m l n (omega arith) (omega arith))
-
--- Six words, read one by one.
-pub six-words : (l : List ℕ) → length l ≡ 6 → getD l 0 0 ∷ getD l 1 0 ∷ getD l 2 0 ∷ getD l 3 0 ∷ getD l 4 0 ∷ getD l 5 0 ∷ [] ≡ l
-six-words [] h = absurd (omega arith)
-six-words (a ∷ []) h = absurd (omega arith)
-six-words (a ∷ b ∷ []) h = absurd (omega arith)
-six-words (a ∷ b ∷ c ∷ []) h = absurd (omega arith)
-six-words (a ∷ b ∷ c ∷ d ∷ []) h = absurd (omega arith)
-six-words (a ∷ b ∷ c ∷ d ∷ e ∷ []) h = absurd (omega arith)
-six-words (a ∷ b ∷ c ∷ d ∷ e ∷ f ∷ []) h = refl
-six-words (a ∷ b ∷ c ∷ d ∷ e ∷ f ∷ g ∷ l) h = absurd (omega arith)
 
 -- A form's row, without a choice for each word: only a universe has a span, and no arguments.
 words-of-form : (k : ℕ) (l : List ℕ) (offset : ℕ) → length l ≡ arity-of k → k ∷ pad 6 l ++ (offset ∷ []) ≡ row k (cond (eqb k universe) (0 ∷ 0 ∷ []) [] ++ l) offset

@@ -27,10 +27,10 @@ pad-words (suc n) [] = sym (words-of-none 0 (suc n))
 pad-words (suc n) (x ∷ l) = ap (λ (w : List ℕ). x ∷ w) (pad-words n l ∙ sym (words-behind x 0 n l))
 
 -- A list of six words by its words.
-abbrev six-of : List ℕ → List ℕ
+abbrev pub six-of : List ℕ → List ℕ
 six-of l = getD l 0 0 ∷ getD l 1 0 ∷ getD l 2 0 ∷ getD l 3 0 ∷ getD l 4 0 ∷ getD l 5 0 ∷ []
 
-six : (l : List ℕ) → length l ≡ 6 → l ≡ six-of l
+pub six : (l : List ℕ) → length l ≡ 6 → l ≡ six-of l
 six (a ∷ b ∷ c ∷ d ∷ e ∷ f ∷ []) h = refl
 six [] h = absurd (omega arith)
 six (a ∷ []) h = absurd (omega arith)

@@ -1,13 +1,12 @@
 -- Document 02, Req 01: the eighth words of the rows are where the terms begin.
 use mathlib.Core.Path.{_≡_, refl, sym, ap, _∙_, subst}
 use mathlib.Core.List.{List, [], _∷_, map}
-use mathlib.Core.Option.{Option, none, some}
+use mathlib.Core.Option.{Option, some}
 use mathlib.Core.Bool.{Bool, true, false}
 use Prim.Native.Nat.{ℕ, zero, suc, _-_}
 use native.Mathlib.Omega.{arith}
 use lib.ListN.{length, take, drop}
 use Rattle.token.specs.Token.{next-token}
-use Rattle.token.specs.declared.TokenKind.{TokenKind}
 use Rattle.token.specs.declared.Token.{Token}
 use Rattle.token.specs.declared.Lexed.the-variants.{Got}
 use Rattle.token.proofs.Parentheses.{open-here}
@@ -16,13 +15,13 @@ use Rattle.words.proofs.Names.{same-eq}
 use Rattle.terms.specs.Forms.{Shape, alone, with-name, with-numeral, binding, plain, Form, forms, Edition, edition-0-1, form-of-word, form-of-kind}
 use Rattle.terms.specs.Tree.{Forest}
 use Rattle.terms.specs.Label.{part, Label, Declaration}
-use Rattle.terms.specs.Offsets.{eighth-word, offsets-of, begins-with, first-bytes, TermsBegin, ModuleBegins}
+use Rattle.terms.specs.Offsets.{eighth-word, begins-with, first-bytes, TermsBegin, ModuleBegins}
 use Rattle.terms.proofs.Names.{none-some, some-inj}
 use Rattle.terms.proofs.FormTable.{every, of-word}
 use Rattle.terms.proofs.Offsets.{surface-offsets, core-offsets}
 use Rattle.surface.specs.declared.Answer.the-variants.{Loaded}
 use Rattle.surface.specs.Text.{text}
-use Rattle.surface.specs.Grammar.{Tokens, the-end, the-next, Opens, Tag, Terms, no-term, leaf-term, ref-term, universe-term, binding-term, plain-term, Declarations, no-declaration, postulate, transparent, opaque, Version, version-0-1, Head, head, Derives}
+use Rattle.surface.specs.Grammar.{Tokens, the-next, Opens, Tag, Terms, no-term, leaf-term, ref-term, universe-term, binding-term, plain-term, Declarations, no-declaration, postulate, transparent, opaque, Version, version-0-1, Head, head, Derives}
 use Rattle.surface.specs.Reader.{start, Result, done, refused}
 use Rattle.surface.specs.Loading.{Lengths, lengths, loading, Outcome, outcome, load}
 use Rattle.surface.specs.SameCore.{Accepts}

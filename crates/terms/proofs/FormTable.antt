@@ -3,12 +3,12 @@ use mathlib.Core.Path.{_≡_, refl, subst}
 use mathlib.Core.List.{List, [], _∷_, map}
 use mathlib.Core.Option.{Option, none, some}
 use mathlib.Core.Bool.{Bool, true, false, _&&_, cond, and-eq-true-iff}
-use Prim.Native.Nat.{ℕ, zero, suc, _≤_}
+use Prim.Native.Nat.{ℕ, zero, suc, _+_, _≤_}
 use native.Mathlib.Omega.{arith}
 use lib.Dec.{leb, eqb}
 use borrow.Author.Tests.{leb-true}
 use Rattle.words.specs.Words.{ascii, same-bytes}
-use Rattle.terms.specs.Forms.{Shape, alone, with-name, with-numeral, binding, plain, Form, forms, universe, ref, form-of-word, form-of-kind, arity-of}
+use Rattle.terms.specs.Forms.{Shape, alone, with-name, with-numeral, binding, plain, Form, forms, universe, ref, form-of-word, form-of-kind, arity-of, has-atom}
 use Rattle.terms.proofs.Names.{none-some, some-inj}
 
 -- Each form of a list passes a test.
@@ -44,6 +44,11 @@ arity-small k = go (form-of-kind k forms) refl
     go : (o : Option Form) → form-of-kind k forms ≡ o → elim o as (λ _. ℕ) [ none ↦ 0 | some f ↦ f .arity ] ≤ 6
     go none e = omega arith
     go (some f) e = leb-true (f .arity) 6 (of-kind (λ f. leb (f .arity) 6) k forms f all-small e)
+
+-- A row has room for what each form keeps: the start and length of its atom, and its arguments' rows.
+pub fields-fit : every (λ f. leb (cond (has-atom (f .shape)) (f .arity + 2) (f .arity)) 6) forms ≡ true
+unfolding forms
+fields-fit = refl
 
 -- What is compared or replaced by its atom has no arguments.
 pub arity-universe : arity-of universe ≡ 0

@@ -1,5 +1,5 @@
 -- The eighth words of a module's rows are the offsets of its terms, in both tables.
-use mathlib.Core.Path.{_≡_, refl, sym, ap, _∙_}
+use mathlib.Core.Path.{_≡_, refl, ap, _∙_}
 use mathlib.Core.List.{List, [], _∷_, _++_, map, map-append}
 use mathlib.Core.Bool.{cond}
 use Prim.Native.Nat.{ℕ, suc}

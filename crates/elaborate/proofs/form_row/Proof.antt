@@ -1,8 +1,8 @@
 -- `form_row` meets its contract.
 use Prim.Native.Nat.{ℕ}
-use mathlib.Core.Path.{ap}
+use mathlib.Core.Path.{sym, ap}
 use mathlib.Core.List.{List, [], _∷_, _++_}
-use Rattle.elaborate.proofs.Finishing.{six-words}
+use Rattle.rows.proofs.Words.{six}
 use borrow.Author.Needs.{needs}
 use Rattle.elaborate.proofs.form_row.Statement.{statement}
 use Rattle.elaborate.proofs.form_row.Tie as tie
@@ -26,7 +26,7 @@ array-read-t22 : tie.Need-array-read-t22
 array-read-t22 c = search needs
 
 returns : tie.Need-returns
-returns c = ap (λ (l : List ℕ). c .args .kind ∷ l ++ (c .args .offset ∷ [])) (six-words (c .args .t2) (c .pre))
+returns c = ap (λ (l : List ℕ). c .args .kind ∷ l ++ (c .args .offset ∷ [])) (sym (six (c .args .t2) (c .pre)))
 
 pub form-row-spec : {M : Type 1} → statement M
 form-row-spec =
