@@ -1,27 +1,17 @@
 // The library for programs to link: `rt staticlib sulyterom`, with include/sulyterom.h for C. Slices pass as a pointer and a length. Each
 // function answers 0, or the class of a refusal, and sets in `answer`, if it has room for them, how many values follow, and these.
 pub mod questions;
-pub mod reports;
 pub mod texts;
 
-use crate::reports::report_loaded;
-use crate::reports::report_read;
-use crate::reports::tell;
+use reports::report_loaded;
+use reports::report_read;
+use reports::tell;
 ghost use mathlib.Core.List.{[]};
 ghost use Rattle.surface.specs.Tables.{tables};
 ghost use Rattle.surface.specs.Reports.{report};
 ghost use Rattle.surface.specs.Loading.{Loads};
 ghost use Rattle.loader.specs.Parsed.{report-read, Parses};
-ghost use Rattle.sulyterom.specs.Numbers.{Told};
-
-// An answer as plain numbers: what a call answers; then how many values follow, and these, and 0 behind them.
-pub struct Numbers {
-    pub number: u8,
-    pub count: u64,
-    pub first: u64,
-    pub second: u64,
-    pub third: u64,
-}
+ghost use Rattle.reports.specs.Numbers.{Told};
 
 // Loads a source. The values are the counts of rows and declarations, or the offset of a refusal that has one. `answer` takes three numbers.
 #[no_mangle]

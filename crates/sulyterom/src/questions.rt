@@ -1,12 +1,12 @@
 // The dependence question and the same-core question.
-use crate::reports::report_comparison;
-use crate::reports::report_dependence;
-use crate::reports::tell;
+use reports::report_comparison;
+use reports::report_dependence;
+use reports::tell;
 ghost use Rattle.surface.specs.Tables.{tables, lengths};
 ghost use Rattle.surface.specs.Reports.{report-dependence};
 ghost use Rattle.surface.specs.Dependence.{Asks};
 ghost use Rattle.same.specs.Comparison.{report-comparison, SameAsked};
-ghost use Rattle.sulyterom.specs.Numbers.{Told};
+ghost use Rattle.reports.specs.Numbers.{Told};
 
 // Whether declaration i depends on j. Answers 0 for yes and no; a yes has one value, the row, and a no has none. `answer` takes three numbers.
 #[no_mangle]

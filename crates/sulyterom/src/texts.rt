@@ -1,13 +1,13 @@
 // The listing, and the tokens of a source.
-use crate::reports::report_listed;
-use crate::reports::report_token;
-use crate::reports::tell_all;
+use reports::report_listed;
+use reports::report_token;
+use reports::tell_all;
 ghost use mathlib.Core.Path.{_≡_};
 ghost use Rattle.surface.specs.Tables.{tables};
 ghost use Rattle.token.specs.Token.{next-token};
 ghost use Rattle.lister.specs.Lists.{Lists};
 ghost use Rattle.surface.specs.Reports.{report-token};
-ghost use Rattle.sulyterom.specs.Numbers.{report-listed, Told};
+ghost use Rattle.reports.specs.Numbers.{report-listed, Told};
 
 // Loads a source and writes its listing, or the line of its refusal, into `text`. The values are those of loading and then the text's length;
 // a text that does not fit is cut, and its length is told as one more than there is room for. `answer` takes four numbers.

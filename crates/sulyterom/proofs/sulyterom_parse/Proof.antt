@@ -1,5 +1,5 @@
 -- `sulyterom::sulyterom_parse` meets its contract.
-use Rattle.sulyterom.proofs.Telling.{tells}
+use Rattle.reports.proofs.Telling.{tells}
 use borrow.Author.Needs.{needs}
 use Rattle.sulyterom.proofs.sulyterom_parse.Statement.{statement}
 use Rattle.sulyterom.proofs.sulyterom_parse.Tie as tie

@@ -1,5 +1,5 @@
 -- `sulyterom::questions::sulyterom_depends` meets its contract.
-use Rattle.sulyterom.proofs.Telling.{tells}
+use Rattle.reports.proofs.Telling.{tells}
 use borrow.Author.Needs.{needs}
 use Rattle.sulyterom.proofs.questions.sulyterom_depends.Statement.{statement}
 use Rattle.sulyterom.proofs.questions.sulyterom_depends.Tie as tie

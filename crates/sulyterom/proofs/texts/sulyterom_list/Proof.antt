@@ -1,5 +1,5 @@
 -- `sulyterom::texts::sulyterom_list` meets its contract.
-use Rattle.sulyterom.proofs.Telling.{tells}
+use Rattle.reports.proofs.Telling.{tells}
 use borrow.Author.Needs.{needs}
 use Rattle.sulyterom.proofs.texts.sulyterom_list.Statement.{statement}
 use Rattle.sulyterom.proofs.texts.sulyterom_list.Tie as tie

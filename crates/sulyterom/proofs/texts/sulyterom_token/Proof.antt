@@ -1,7 +1,7 @@
 -- `sulyterom::texts::sulyterom_token` meets its contract.
 use mathlib.Core.Path.{ap}
 use Rattle.lexer.specs.declared.Stepped.{Stepped}
-use Rattle.sulyterom.proofs.Telling.{tells}
+use Rattle.reports.proofs.Telling.{tells}
 use borrow.Author.Needs.{needs}
 use Rattle.sulyterom.proofs.texts.sulyterom_token.Statement.{statement}
 use Rattle.sulyterom.proofs.texts.sulyterom_token.Tie as tie

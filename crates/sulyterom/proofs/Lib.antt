@@ -1,2 +1,0 @@
-mod Stored
-mod Telling
