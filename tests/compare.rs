@@ -1,4 +1,5 @@
 //! Compares the Rattle library with the Rust on random sources: compare [COUNT [SEED]].
+mod equality;
 #[cfg(mock)]
 mod faults;
 #[cfg(mock)]
@@ -130,14 +131,29 @@ fn compare_word(word: &str, prng: &mut Prng) -> Option<Mismatch> {
     differ("word", expected, probe::word_line(word.as_bytes())).or_else(|| compare_equality(word.as_bytes(), prng))
 }
 
-/// The word against its copy, against a damaged one, and against one that shares a long beginning.
+/// The word and one that repeats it against copies, damaged ones, and ones of the same length with a few bytes changed.
 fn compare_equality(word: &[u8], prng: &mut Prng) -> Option<Mismatch> {
-    let long = [word, word, word].concat();
-    let others = [word.to_vec(), damaged(word, prng), long.clone(), damaged(&long, prng)];
-    let equal = |other: &Vec<u8>| {
-        let what = format!("equality with {}", common::escape::escape(other));
-        differ(&what, word == other, probe::same_bytes(word, other))
-            .or_else(|| differ(&what, long == *other, probe::same_bytes(&long, other)))
-    };
-    others.iter().find_map(equal)
+    let long = word.repeat(prng.between(2, 9));
+    let others = [
+        word.to_vec(),
+        damaged(word, prng),
+        changed(word, prng),
+        long.clone(),
+        damaged(&long, prng),
+        changed(&long, prng),
+    ];
+    others.iter().find_map(|other| equality::check(word, other).or_else(|| equality::check(&long, other)))
+}
+
+/// A copy with one to four bytes changed, the last one often among them.
+fn changed(word: &[u8], prng: &mut Prng) -> Vec<u8> {
+    let mut copy = word.to_vec();
+    if let Some(last) = copy.last_mut().filter(|_| prng.chance(30)) {
+        *last ^= 1;
+    }
+    for _ in 0..prng.below(4) {
+        let at = prng.below(copy.len().max(1));
+        copy.get_mut(at).into_iter().for_each(|byte| *byte ^= 1 << prng.below(8));
+    }
+    copy
 }

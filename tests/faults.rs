@@ -141,6 +141,20 @@ pub fn same_bytes(a: &[u8], b: &[u8]) -> Option<bool> {
     }
 }
 
+/// Of two names of one length.
+pub fn first_difference(a: &[u8], b: &[u8]) -> Option<usize> {
+    let differs = |place: &usize| a[*place] != b[*place];
+    let mut places = 0..a.len();
+    match fault() {
+        "difference-last" => Some(places.rfind(differs).unwrap_or(a.len())),
+        "difference-not-in-the-last-byte" => {
+            Some(places.find(differs).filter(|at| at + 1 < a.len()).unwrap_or(a.len()))
+        }
+        "difference-by-blocks" => Some(places.find(differs).map_or(a.len(), |place| place / 8 * 8)),
+        _ => None,
+    }
+}
+
 pub fn valid_up_to(source: &[u8]) -> Option<usize> {
     let about_utf8 = ["surrogates", "overlong", "above-f4-8f", "cut-sequence-valid", "offset-of-the-broken-byte"];
     about_utf8.contains(&fault()).then(|| valid_beginning(source))

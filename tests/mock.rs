@@ -61,6 +61,15 @@ pub unsafe fn sulyterom_same_bytes(a: *const u8, a_length: usize, b: *const u8, 
     faults::same_bytes(a, b).unwrap_or(a == b)
 }
 
+pub unsafe fn sulyterom_first_difference(a: *const u8, a_length: usize, b: *const u8, b_length: usize) -> usize {
+    let (a, b) = unsafe { (slice(a, a_length), slice(b, b_length)) };
+    if a.len() != b.len() {
+        return usize::MAX;
+    }
+    let shared = || (0..a.len()).take_while(|place| a[*place] == b[*place]).count();
+    faults::first_difference(a, b).unwrap_or_else(shared)
+}
+
 pub unsafe fn sulyterom_valid_up_to(s: *const u8, length: usize) -> usize {
     let source = unsafe { slice(s, length) };
     faults::valid_up_to(source).unwrap_or_else(|| answers::valid_up_to(source))

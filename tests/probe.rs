@@ -17,6 +17,7 @@ mod library {
         pub fn sulyterom_name_test(word: *const u8, length: usize) -> u8;
         pub fn sulyterom_is_numeral(word: *const u8, length: usize) -> bool;
         pub fn sulyterom_same_bytes(a: *const u8, a_length: usize, b: *const u8, b_length: usize) -> bool;
+        pub fn sulyterom_first_difference(a: *const u8, a_length: usize, b: *const u8, b_length: usize) -> usize;
         pub fn sulyterom_valid_up_to(s: *const u8, length: usize) -> usize;
         pub fn sulyterom_starts_with_mark(s: *const u8, length: usize) -> bool;
     }
@@ -61,6 +62,12 @@ pub fn is_numeral(word: &[u8]) -> bool {
 
 pub fn same_bytes(a: &[u8], b: &[u8]) -> bool {
     unsafe { library::sulyterom_same_bytes(a.as_ptr(), a.len(), b.as_ptr(), b.len()) }
+}
+
+/// Where two names of one length differ first, or their length; none for names of other lengths.
+pub fn first_difference(a: &[u8], b: &[u8]) -> Option<usize> {
+    let place = unsafe { library::sulyterom_first_difference(a.as_ptr(), a.len(), b.as_ptr(), b.len()) };
+    (place != usize::MAX).then_some(place)
 }
 
 pub fn valid_up_to(source: &[u8]) -> usize {

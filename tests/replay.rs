@@ -1,4 +1,5 @@
 //! Replays the fixed lists on the Rattle library: replay [FOLDER], by default tests/lists.
+mod equality;
 #[cfg(mock)]
 mod faults;
 #[cfg(mock)]
@@ -37,7 +38,39 @@ fn main() -> ExitCode {
             Err(error) => tally.broken(&error),
         }
     }
+    two_differences(&mut tally);
+    every_bit(&mut tally);
     tally.finish()
+}
+
+/// Names of each length that differ at one place, at each two, or nowhere.
+fn two_differences(tally: &mut Tally) {
+    for length in 0..=40 {
+        let name: Vec<u8> = (b'A'..).take(length).collect();
+        tally.count(&name, equality::check(&name, &name.clone()));
+        for first in 0..length {
+            for second in first..length {
+                let mut other = name.clone();
+                (other[first], other[second]) = (b'_', b'_');
+                tally.count(&name, equality::check(&name, &other));
+            }
+        }
+    }
+}
+
+/// Names that differ in one bit of one byte, whatever the byte is.
+fn every_bit(tally: &mut Tally) {
+    for place in 0..20 {
+        for byte in 0..=255 {
+            let name: Vec<u8> = (0..20).map(|at| if at == place { byte } else { b'x' }).collect();
+            let flipped = (0..8).map(|bit| {
+                let mut other = name.clone();
+                other[place] ^= 1 << bit;
+                other
+            });
+            flipped.for_each(|other| tally.count(&name, equality::check(&name, &other)));
+        }
+    }
 }
 
 fn check_tokens(line: &Line) -> Option<Mismatch> {
@@ -66,10 +99,5 @@ fn check_equality(line: &Line) -> Option<Mismatch> {
         others.push(word[..at].to_vec());
     }
     others.extend(RESERVED.iter().map(|reserved| reserved.as_bytes().to_vec()));
-    let equal = |other: &Vec<u8>| {
-        let what = format!("equality with {}", common::escape::escape(other));
-        differ(&what, word == other, probe::same_bytes(word, other))
-            .or_else(|| differ(&what, other == word, probe::same_bytes(other, word)))
-    };
-    others.iter().find_map(equal)
+    others.iter().find_map(|other| equality::check(word, other))
 }

@@ -2,7 +2,7 @@
 use std::sync::OnceLock;
 
 /// Of tokens, words and UTF-8.
-pub const TEXT: [&str; 39] = [
+pub const TEXT: [&str; 42] = [
     "comment-ends-at-13",
     "comment-to-the-end",
     "one-comment-only",
@@ -36,6 +36,9 @@ pub const TEXT: [&str; 39] = [
     "same-by-prefix",
     "same-by-32-bytes",
     "same-by-both-ends",
+    "difference-last",
+    "difference-not-in-the-last-byte",
+    "difference-by-blocks",
     "surrogates",
     "overlong",
     "above-f4-8f",

@@ -9,10 +9,10 @@ pub const WORD: &str = "--count";
 /// The library's memset and memcpy use string instructions for long blocks, of which valgrind counts one a byte.
 const PLAIN: &str = "glibc.cpu.x86_rep_stosb_threshold=1000000000:glibc.cpu.x86_rep_movsb_threshold=1000000000";
 
-/// Turns that are counted, of which the one in the middle counts. Ours are alike; the Rust's keys for names are random,
-/// and its memory is now and then put in order.
+/// Turns that are counted, of which the one in the middle counts: the allocator puts its lists in order now and then, and the
+/// Rust's keys for names are random.
 fn turns_of(who: Who) -> usize {
-    if who == Who::Rust { 5 } else { 1 }
+    if who == Who::Rust { 5 } else { 3 }
 }
 
 /// A turn that callgrind knows by its name.

@@ -1,4 +1,5 @@
 //! The kinds of sources that are measured, each with what is asked of loading it.
+use crate::sources::declared::{headed, late, longer, tailed};
 use crate::sources::{declared, forms, layout, locals, marks, random, short};
 
 /// Short, medium and long.
@@ -23,7 +24,7 @@ const fn kind(name: &'static str, about: &'static str, goal: f64, source: fn(usi
 const EVEN: f64 = 1.0;
 const USUAL: f64 = 2.5;
 
-pub const KINDS: [Kind; 25] = [
+pub const KINDS: [Kind; 31] = [
     Kind { sizes: &[100], ..kind("tiny", "100 bytes in all", EVEN, short::tiny) },
     kind("short", "many short declarations, `(postulate a7 nat)`", USUAL, short::short),
     kind("densest", "the same with the shortest names there are", USUAL, short::densest),
@@ -51,6 +52,21 @@ pub const KINDS: [Kind; 25] = [
         EVEN,
         declared::long_references,
     ),
+    kind("tails-40", "names of 40 bytes that share a tail, then references to the last eight of them", EVEN, |size| {
+        late(size, 40, tailed)
+    }),
+    kind("tails-200", "the same with names of 200 bytes", EVEN, |size| late(size, 200, tailed)),
+    kind("heads-40", "names of 40 bytes that share a head, then references to the last eight of them", EVEN, |size| {
+        late(size, 40, headed)
+    }),
+    kind("heads-200", "the same with names of 200 bytes", EVEN, |size| late(size, 200, headed)),
+    kind(
+        "lengths-40",
+        "names of 40 bytes and more that differ in length alone, then references to the last eight of them",
+        EVEN,
+        |size| late(size, 40, longer),
+    ),
+    kind("lengths-200", "the same with names of 200 bytes and more", EVEN, |size| late(size, 200, longer)),
     kind(
         "locals",
         "500 nested `lam` around references to the outermost, whose name has another length than all others",

@@ -1,5 +1,10 @@
 -- The answers of the inner layers as numbers.
 use Prim.Native.Nat.{ℕ}
+use mathlib.Core.Bool.{cond}
+use mathlib.Core.List.{List}
+use lib.Dec.{eqb}
+use lib.ListN.{length}
+use Rattle.differences.specs.Differences.{first-difference}
 use Rattle.token.specs.declared.Place.{Place}
 use Rattle.token.specs.declared.Lexed.{Lexed}
 use Rattle.words.specs.declared.NameTest.{NameTest}
@@ -26,3 +31,7 @@ abbrev pub test-number : NameTest → ℕ
 test-number NameTest.Name = 0
 test-number NameTest.Reserved = 3
 test-number NameTest.NotIdentifier = 1
+
+-- Where two names of one length differ first, or their length; a number that is no place for two of other lengths.
+abbrev pub difference-number : List ℕ → List ℕ → ℕ
+difference-number a b = cond (eqb (length a) (length b)) (first-difference a b) 18446744073709551615

@@ -3,11 +3,14 @@ ghost use mathlib.Core.Path.{_≡_};
 ghost use Rattle.token.specs.Token.{next-token};
 ghost use Rattle.words.specs.Words.{same-bytes, word-index, numeral, name-test};
 ghost use Rattle.utf8.specs.Utf8.{valid-length, byte-order-mark};
-ghost use Rattle.probe.specs.Numbers.{place-number, token-number, kind-number, start-number, end-number, test-number};
+ghost use Rattle.probe.specs.Numbers.{place-number, token-number, kind-number, start-number, end-number, test-number, difference-number};
 use token::Lexed;
 use token::Place;
 use token::TokenKind;
 use words::NameTest;
+
+// No name is so long.
+const NO_PLACE: usize = 18446744073709551615;
 
 fn place_number(p: Place) -> usize
     ensures { λ r. ⌜ r ≡ place-number p ⌝ }
@@ -126,6 +129,17 @@ pub extern "C" fn sulyterom_same_bytes(a: &[u8], b: &[u8]) -> bool
     ensures { λ r. ⌜ r ≡ same-bytes (now (a .entry)) (now (b .entry)) ⌝ }
 {
     words::same_bytes(a, b)
+}
+
+// The first place where two names of one length differ, or their length; NO_PLACE for two of other lengths.
+#[no_mangle]
+pub extern "C" fn sulyterom_first_difference(a: &[u8], b: &[u8]) -> usize
+    ensures { λ r. ⌜ r ≡ difference-number (now (a .entry)) (now (b .entry)) ⌝ }
+{
+    if a.len() != b.len() {
+        return NO_PLACE;
+    }
+    differences::first_difference(a, b)
 }
 
 #[no_mangle]

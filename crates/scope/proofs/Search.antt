@@ -1,5 +1,5 @@
 -- A walk over a list of names that passes one name after the other.
-use Prim.Native.Nat.{ℕ, suc, _+_, _-_, _*_, _<_}
+use Prim.Native.Nat.{ℕ, suc, _+_, _-_, _*_, _≤_, _<_}
 use mathlib.Core.Path.{_≡_, refl, sym, _∙_, ap, ap₂}
 use mathlib.Core.List.{List, [], _∷_}
 use mathlib.Core.Option.{Option, none, some}
@@ -7,8 +7,10 @@ use mathlib.Core.Bool.{Bool, true, false}
 use native.Mathlib.Omega.{arith}
 use native.Mathlib.Numerals.{add-one}
 use native.Mathlib.Nat.{min-le-left}
-use lib.ListN.{length, getD, drop, length-take}
-use lib.Seq.{getD-take, getD-drop}
+use lib.Dec.{eqb}
+use lib.ListN.{length, getD, take, drop, length-take, length-drop, drop-of-length-le}
+use lib.Seq.{take-all, take-nil}
+use borrow.Author.Tests.{ne-eqb}
 use Rattle.words.proofs.Names.{ne-same}
 use Rattle.words.specs.Words.{same-bytes}
 use Rattle.terms.specs.Label.{Name, part}
@@ -57,14 +59,19 @@ module _ (x : Name) where
 pub longer : (x : Name) (s : List ℕ) (a n : ℕ) → n < length x → same-bytes x (part s a n) ≡ false
 longer x s a n h = ne-same x (part s a n) (λ q. let e = ap length q in omega (arith, length-take n (drop a s), min-le-left n (length (drop a s))))
 
--- A part with another last byte.
-pub other-end : (x : Name) (s : List ℕ) (a n : ℕ) → 0 < n → (getD s (a + n - 1) 0 ≡ getD x (n - 1) 0 → ⊥) → same-bytes x (part s a n) ≡ false
-other-end x s a n h q = ne-same x (part s a n) (λ e. q (sym (
-    ap (λ (l : List ℕ). getD l (n - 1) 0) e
-    ∙ getD-take n (drop a s) (n - 1) 0 (omega arith)
-    ∙ getD-drop a s (n - 1) 0
-    ∙ ap (λ (i : ℕ). getD s i 0) (let z : a + (n - 1) ≡ a + n - 1 = omega arith in z)
-    )))
+-- A part that runs past the end is what is left of the source, and nothing where it starts there.
+pub cut-off : (s : List ℕ) (a n : ℕ) → length s ≤ a + n → take (length s - a) (drop a s) ≡ part s a n
+cut-off s a n h =
+    let l = length-drop a s in
+    take-all (length s - a) (drop a s) (omega arith) ∙ sym (take-all n (drop a s) (omega arith))
+
+pub nothing-left : (x : Name) (s : List ℕ) (a n : ℕ) → length s ≤ a → eqb (length x) 0 ≡ same-bytes x (part s a n)
+unfolding same-bytes
+nothing-left x s a n h = rw (drop-of-length-le s {i = a} h, take-nil n) (empty x)
+  where
+    empty : (x : Name) → eqb (length x) 0 ≡ same-bytes x []
+    empty [] = refl
+    empty (b ∷ l) = ne-eqb (suc (length l)) 0 (λ q. omega arith)
 
 -- The name on top of the locals.
 pub innermost : (s w : List ℕ) (d : ℕ) → 0 < d

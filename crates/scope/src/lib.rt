@@ -49,24 +49,17 @@ pub enum Referent {
     Unknown,
 }
 
-// Whether a part of the source is the name x: where the part lies in the source, its length is compared first, then its last byte, in which most
-// names of one length differ.
+// Whether a part of the source is the name x. What of the part runs past the end is cut off, as `atom` does.
 fn is_name(s: &[u8], start: u32, length: u32, x: &[u8]) -> bool
     ensures { λ r. ⌜ r ≡ same-bytes (now (x .entry)) (part (now (s .entry)) start length) ⌝ }
 {
     let a = start as usize;
-    let n = length as usize;
+    let mut n = length as usize;
     if s.len() < a + n {
-        let y = atom(s, start, length);
-        return words::same_bytes(x, y);
-    }
-    if n != x.len() {
-        return false;
-    }
-    if 0 < n {
-        if s[a + n - 1] != x[n - 1] {
-            return false;
+        if s.len() <= a {
+            return x.len() == 0;
         }
+        n = s.len() - a;
     }
     words::same_bytes(x, &s[a..a + n])
 }

@@ -1,8 +1,7 @@
 mod Bytes
 mod Atoms
 mod Every
-mod Numbers
 mod Lookup
 pub mod Names
 pub mod Reserved
-mod Differences
+pub mod Comparison

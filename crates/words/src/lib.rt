@@ -1,12 +1,11 @@
 // Atoms as words, each a part of the source: reserved words, identifiers, numerals, and equal names.
 // The port of `is_reserved`, `is_identifier` and the test of `parse_natural` in surface/parser.rs. Document 01, "The token".
 ghost use mathlib.Core.Path.{_≡_};
+ghost use mathlib.Core.Bool.{cond};
 ghost use Prim.Native.Nat.{_≤_, _<_};
 ghost use lib.ListN.{length};
 ghost use Rattle.token.specs.Token.{digit};
 ghost use Rattle.words.specs.Words.{same-bytes, word-index, reserved, name-start, name-byte, identifier, numeral, name-test};
-ghost use Rattle.words.specs.Differences.{first-difference};
-ghost use Rattle.words.specs.Numbers.{number-of};
 
 pub enum NameTest {
     Name,
@@ -14,22 +13,7 @@ pub enum NameTest {
     NotIdentifier,
 }
 
-// The first place where two atoms of one length differ; their length where there is none.
-fn first_difference(a: &[u8], b: &[u8]) -> usize
-    requires { ⌜ length (now a) ≡ length (now b) ⌝ }
-    ensures { λ r. ⌜ r ≡ first-difference (now (a .entry)) (now (b .entry)) ⌝ }
-{
-    let mut i = 0;
-    while i < a.len() {
-        if a[i] != b[i] {
-            return i;
-        }
-        i += 1;
-    }
-    i
-}
-
-// Whether two atoms have equal bytes. No byte is looked at where the lengths differ.
+// Whether two atoms have equal bytes. No byte is looked at where the lengths differ; else the search ends at the first byte that does.
 pub fn same_bytes(a: &[u8], b: &[u8]) -> bool
     ensures { λ r. ⌜ r ≡ same-bytes (now (a .entry)) (now (b .entry)) ⌝ }
 {
@@ -37,30 +21,16 @@ pub fn same_bytes(a: &[u8], b: &[u8]) -> bool
     if n != b.len() {
         return false;
     }
-    first_difference(a, b) == n
+    differences::first_difference(a, b) == n
 }
 
-// A short atom as a number: its bytes as digits of base 256, the first byte last, behind a digit 1.
-fn number(w: &[u8]) -> u64
-    requires { ⌜ length (now w) < 8 ⌝ }
-    ensures { λ r. ⌜ r ≡ number-of (now (w .entry)) ⌝ }
-{
-    let mut number: u64 = 1;
-    let mut i = w.len();
-    while 0 < i {
-        i -= 1;
-        let byte = w[i] as u64;
-        number = number * 256 + byte;
-    }
-    number
-}
-
-// The place of an atom of fewer than eight bytes. A table of the words would be copied at each call.
+// The place of an atom of fewer than eight bytes, by its number: its bytes, the first one last, behind a digit 1. A table of the words
+// would be copied at each call.
 fn short_index(w: &[u8]) -> u8
     requires { ⌜ length (now w) < 8 ⌝ }
     ensures { λ r. ⌜ r ≡ word-index (now (w .entry)) ⌝ }
 {
-    let number = number(w);
+    let number = differences::number(1, w);
     match number {
         0x16a => 17, // j
         0x16970 => 8, // pi
@@ -87,38 +57,40 @@ fn short_index(w: &[u8]) -> u8
     }
 }
 
-// The place of a longer atom.
-fn long_index(w: &[u8]) -> u8
-    requires { ⌜ 8 ≤ length (now w) ⌝ }
-    ensures { λ r. ⌜ r ≡ word-index (now (w .entry)) ⌝ }
+// Which of two words an atom is, by their places; 0 where it is neither.
+fn one_of(w: &[u8], first: &[u8], i: u8, second: &[u8], j: u8) -> u8
+    ensures { λ r. ⌜ r ≡ cond (same-bytes (now (w .entry)) (now (first .entry))) i (cond (same-bytes (now (w .entry)) (now (second .entry))) j 0) ⌝ }
 {
-    if same_bytes(w, b"universe") {
-        return 7;
+    if same_bytes(w, first) {
+        return i;
     }
-    if same_bytes(w, b"nat-elim") {
-        return 26;
-    }
-    if same_bytes(w, b"postulate") {
-        return 3;
-    }
-    if same_bytes(w, b"unit-elim") {
-        return 22;
-    }
-    if same_bytes(w, b"empty-elim") {
-        return 19;
-    }
-    if same_bytes(w, b"transparent") {
-        return 4;
+    if same_bytes(w, second) {
+        return j;
     }
     0
 }
 
-// The place of an atom among the reserved words, from 1; 0 for any other.
+// The place of an atom that is as long as a longer reserved word.
+fn long_index(w: &[u8]) -> u8
+    requires { ⌜ (8 ≤ length (now w)) × (length (now w) ≤ 11) ⌝ }
+    ensures { λ r. ⌜ r ≡ word-index (now (w .entry)) ⌝ }
+{
+    match w.len() {
+        8 => one_of(w, b"universe", 7, b"nat-elim", 26),
+        9 => one_of(w, b"postulate", 3, b"unit-elim", 22),
+        _ => one_of(w, b"empty-elim", 19, b"transparent", 4),
+    }
+}
+
+// The place of an atom among the reserved words, from 1; 0 for any other. No reserved word has more than 11 bytes.
 pub fn word_index(w: &[u8]) -> u8
     ensures { λ r. ⌜ r ≡ word-index (now (w .entry)) ⌝ }
 {
     if w.len() < 8 {
         return short_index(w);
+    }
+    if 11 < w.len() {
+        return 0;
     }
     long_index(w)
 }

@@ -1,32 +1,32 @@
--- `words::number` meets its contract: the bytes from i on are taken in.
+-- `number` meets its contract: the bytes from i on are taken in.
 use Prim.Native.Nat.{_-_, _+_, _*_, _≤_, _<_}
 use mathlib.Core.Path.{_≡_, sym, ap}
 use native.Mathlib.Omega.{arith}
 use lib.ListN.{length, getD, drop}
 use lib.Seq.{drop-length}
-use Rattle.words.specs.Numbers.{number-of}
-use Rattle.words.proofs.Numbers.{bound, number-more, number-fits}
-use Rattle.words.proofs.number.Statement.{statement}
-use Rattle.words.proofs.number.Tie as tie
+use Rattle.differences.specs.inner.Digits.{digits}
+use Rattle.differences.proofs.Digits.{power, number-more, number-fits}
+use Rattle.differences.proofs.number.Statement.{statement}
+use Rattle.differences.proofs.number.Tie as tie
 
 abbrev Inv-loop : tie.InvT-loop
-Inv-loop w number₀ i₀ number i = (i ≤ length w) × (number ≡ number-of (drop i w))
+Inv-loop first w number₀ i₀ number i = (i ≤ length w) × (number ≡ digits first (drop i w))
 
 abbrev μ-loop : tie.MeasureT-loop
-μ-loop w number₀ i₀ number i = i
+μ-loop first w number₀ i₀ number i = i
 
 loop-holds : tie.Need-loop-holds Inv-loop μ-loop
-unfolding number-of
-loop-holds c = (omega arith, sym (ap number-of (drop-length (c .args .w .now))))
+unfolding digits
+loop-holds c = (omega arith, sym (ap (digits (c .args .first)) (drop-length (c .args .w .now))))
 
 sub-i : tie.Need-sub-i Inv-loop μ-loop
 sub-i c = omega arith
 
 fits : (c : tie.After-shared-slice-known Inv-loop μ-loop)
-    → c .before .before .loop .number * 256 + getD (c .before .before .before .args .w .now) (c .before .before .loop .i - 1) 0 < bound 7
+    → c .before .before .loop .number * 256 + getD (c .before .before .before .args .w .now) (c .before .before .loop .i - 1) 0 < power 8
 fits c =
     let l = c .before .before in
-    number-fits _ (λ i. c .shared-slice-known .given i .fits) _ (c .before .loop-test .taken) (l .loop .inv .0) _ (l .loop .inv .1) (l .before .pre)
+    number-fits _ _ (λ i. c .shared-slice-known .given i .fits) _ (c .before .loop-test .taken) (l .loop .inv .0) _ (l .loop .inv .1) (l .before .pre .0) (l .before .pre .1)
 
 shared-slice-read-byte : tie.Need-shared-slice-read-byte Inv-loop μ-loop
 shared-slice-read-byte c = omega arith
@@ -46,7 +46,7 @@ loop-less c = omega arith
 loop-again : tie.Need-loop-again Inv-loop μ-loop
 loop-again c =
     let l = c .before .before in
-    (omega arith, number-more _ (λ i. c .shared-slice-known .given i .fits) _ (c .before .loop-test .taken) (l .loop .inv .0) _ (l .loop .inv .1))
+    (omega arith, number-more _ _ (λ i. c .shared-slice-known .given i .fits) _ (c .before .loop-test .taken) (l .loop .inv .0) _ (l .loop .inv .1))
 
 returns : tie.Need-returns Inv-loop μ-loop
 returns c =

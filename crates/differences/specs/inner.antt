@@ -1,0 +1,3 @@
+-- Definitions that only contracts of inner functions cite: nobody has to believe them.
+pub mod Digits
+pub mod Shared
