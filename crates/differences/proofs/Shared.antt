@@ -36,13 +36,13 @@ module _ (a b : List ℕ) where
         let rest = ap₂ first-difference (drop-drop n i a) (drop-drop n i b) in
         record { high = h; same = p .same ∙ (let s : i + first-difference (drop i a) (drop i b) ≡ i + n + first-difference (drop (i + n) a) (drop (i + n) b) = omega arith in s) }
 
-    -- Eight bytes whose numbers are equal.
-    pub shared-eight : Bytes a → Bytes b → i + 8 ≤ length a → digits 0 (take (i + 8 - i) (drop i a)) ≡ digits 0 (take (i + 8 - i) (drop i b)) → Shared a b (i + 8)
-    shared-eight p q h e =
-        let r : i + 8 - i ≡ 8 = omega arith in
-        let l = length-take-le 8 (drop i a) (omega (arith, length-drop i a)) in
-        let m = length-take-le 8 (drop i b) (omega (arith, length-drop i b)) in
-        shared-block 8 h (same-digits 0 _ _ (bytes-part a p i 8) (bytes-part b q i 8) (inl (l ∙ sym m)) (rw r at e))
+    -- Bytes whose numbers are equal.
+    pub shared-number : (n : ℕ) → Bytes a → Bytes b → i + n ≤ length a → digits 0 (take (i + n - i) (drop i a)) ≡ digits 0 (take (i + n - i) (drop i b)) → Shared a b (i + n)
+    shared-number n p q h e =
+        let r : i + n - i ≡ n = omega arith in
+        let l = length-take-le n (drop i a) (omega (arith, length-drop i a)) in
+        let m = length-take-le n (drop i b) (omega (arith, length-drop i b)) in
+        shared-block n h (same-digits 0 _ _ (bytes-part a p i n) (bytes-part b q i n) (inl (l ∙ sym m)) (rw r at e))
 
     pub differs-here : i < length a → (getD a i 0 ≡ getD b i 0 → ⊥) → i ≡ first-difference a b
     unfolding first-difference

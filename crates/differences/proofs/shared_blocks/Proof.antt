@@ -1,12 +1,11 @@
 -- `shared_blocks` meets its contract: the names share each block that it passes.
-use Prim.Native.Nat.{ℕ, _+_, _-_, _≤_}
+use Prim.Native.Nat.{_-_}
 use mathlib.Core.Path.{sym, _∙_}
-use mathlib.Core.List.{List}
-use native.Mathlib.Nat.{min-le-left}
 use native.Mathlib.Omega.{arith}
-use lib.ListN.{length, take, drop, length-take}
+use lib.ListN.{length}
+use borrow.Author.Needs.{needs}
 use Rattle.differences.specs.inner.Shared.{Shared}
-use Rattle.differences.proofs.Shared.{shared-none, shared-eight}
+use Rattle.differences.proofs.Shared.{shared-none, shared-number}
 use Rattle.differences.proofs.shared_blocks.Statement.{statement}
 use Rattle.differences.proofs.shared_blocks.Tie as tie
 
@@ -34,12 +33,8 @@ part-number-start c = omega arith
 part-number-end : tie.Need-part-number-end Inv-loop μ-loop
 part-number-end c = omega arith
 
--- A block is eight bytes.
-fits : (l : List ℕ) (i : ℕ) → (0 ≤ 1) × (0 + length (take (i + 8 - i) (drop i l)) ≤ 8)
-fits l i = (omega arith, omega (arith, length-take (i + 8 - i) (drop i l), min-le-left (i + 8 - i) (length (drop i l))))
-
 number-requires : tie.Need-number-requires Inv-loop μ-loop
-number-requires c κs = fits (c .before .before .before .before .before .args .a .now) (c .before .before .loop .i)
+number-requires c κs = search needs
 
 add-number-2 : tie.Need-add-number-2 Inv-loop μ-loop
 add-number-2 c = omega arith
@@ -54,7 +49,7 @@ part-number-end-2 : tie.Need-part-number-end-2 Inv-loop μ-loop
 part-number-end-2 c = omega arith
 
 number-requires-2 : tie.Need-number-requires-2 Inv-loop μ-loop
-number-requires-2 c κs = fits (c .before .before .before .before .before .before .before .args .b .now) (c .before .before .before .before .loop .i)
+number-requires-2 c κs = search needs
 
 returns : tie.Need-returns Inv-loop μ-loop
 returns c = c .before .before .before .before .before .before .loop .inv
@@ -68,7 +63,7 @@ loop-less c = omega arith
 loop-again : tie.Need-loop-again Inv-loop μ-loop
 loop-again c =
     let a = c .before .before .before .before .before .before .before .before .before in
-    shared-eight _ _ (a .pre) _ (c .before .before .before .before .before .before .loop .inv) (λ k. c .before .before .before .before .before .before .before .before .shared-slice-known .given k .fits) (λ k. c .before .before .before .before .before .before .before .shared-slice-known2 .given k .fits) (omega arith) (sym (c .before .before .before .number .ensures) ∙ c .if1 .left ∙ c .before .number2 .ensures)
+    shared-number _ _ (a .pre) _ (c .before .before .before .before .before .before .loop .inv) 8 (λ k. c .before .before .before .before .before .before .before .before .shared-slice-known .given k .fits) (λ k. c .before .before .before .before .before .before .before .shared-slice-known2 .given k .fits) (omega arith) (sym (c .before .before .before .number .ensures) ∙ c .if1 .left ∙ c .before .number2 .ensures)
 
 returns-2 : tie.Need-returns-2 Inv-loop μ-loop
 returns-2 c = c .before .loop .inv
