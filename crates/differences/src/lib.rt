@@ -40,7 +40,7 @@ fn shared_blocks(a: &[u8], b: &[u8]) -> usize
     i
 }
 
-// The first place where two names of one length differ; their length where there is none. Most differ in their first byte.
+// The first place where two names of one length differ; their length where there is none. Often the first byte tells.
 pub fn first_difference(a: &[u8], b: &[u8]) -> usize
     requires { ⌜ length (now a) ≡ length (now b) ⌝ }
     ensures { λ r. ⌜ r ≡ first-difference (now (a .entry)) (now (b .entry)) ⌝ }
