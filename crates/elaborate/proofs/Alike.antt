@@ -7,7 +7,7 @@ use native.Mathlib.Omega.{arith}
 use native.Mathlib.Decide.{ℕ-discrete}
 use borrow.Author.Tests.{ne-eqb}
 use lib.Dec.{eqb}
-use Rattle.terms.specs.Forms.{universe, pi, lam, sigma, ref, forms, form-of-kind, holds-span}
+use Rattle.terms.specs.Forms.{universe, pi, lam, sigma, ref, forms, form-of-kind, holds-span, holds-span-in}
 use Rattle.terms.specs.Label.{Name, part, Label}
 use Rattle.terms.specs.Resolution.{find, Core, kept, var, global, unknown, referent, core-of, covers, locals-in, is-unknown}
 use Rattle.terms.specs.Rows.{row, span, core-kind, core-fields, core-words}
@@ -17,7 +17,7 @@ use Rattle.elaborate.proofs.Covering.{covers-none}
 
 -- Which kinds have a span: those of a reference, a universe, and what covers an argument.
 spans : (holds-span ref ≡ true) × (holds-span universe ≡ true) × (holds-span pi ≡ true) × (holds-span sigma ≡ true) × (holds-span lam ≡ true)
-unfolding holds-span form-of-kind forms
+unfolding holds-span-in form-of-kind forms
 spans = (refl, refl, refl, refl, refl)
 
 not-both : {A : Type 0} (b : Bool) → b ≡ true → b ≡ false → A

@@ -10,7 +10,7 @@ use borrow.Author.Tests.{leb-true}
 use lib.Dec.{leb}
 use lib.ListN.{length, getD, take, drop, replicate, getD-replicate, List·getD-eq-default}
 use lib.Seq.{getD-take, getD-drop}
-use Rattle.terms.specs.Forms.{forms, form-of-kind, arity-of, holds-span}
+use Rattle.terms.specs.Forms.{forms, form-of-kind, arity-of, holds-span, holds-span-in}
 use Rattle.terms.specs.Label.{Label}
 use Rattle.terms.specs.Rows.{pad, span, surface-row}
 use Rattle.terms.proofs.RowFields.{row-field, row-offset}
@@ -35,7 +35,7 @@ abbrev bounded : ℕ → Bool
 bounded k = leb (cond (holds-span k) (arity-of k + 4) (arity-of k)) 6
 
 arity-behind-span : (k : ℕ) → holds-span k ≡ true → arity-of k ≤ 2
-unfolding forms form-of-kind arity-of holds-span
+unfolding forms form-of-kind arity-of holds-span-in
 arity-behind-span k e = elim (decLt k 25) [
   | yes h ↦
       let b = sym (value-at bounded (replicate 25 true) true 25 k refl h) ∙ getD-replicate 25 k true true h in

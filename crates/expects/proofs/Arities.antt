@@ -8,6 +8,8 @@ use lib.Dec.{eqb, leb}
 use borrow.Author.Tests.{eqb-true, leb-true}
 use Rattle.words.specs.Words.{same-bytes}
 use Rattle.terms.specs.Forms.{Shape, alone, with-name, with-numeral, binding, plain, Form, Edition, edition-0-1, forms, form-of-word, form-of-kind, arity-of}
+use Rattle.terms.specs.TextForms.{text-forms}
+use Rattle.core_text.specs.TextReading.{text-edition}
 use Rattle.expects.specs.declared.Format.{Format}
 use Rattle.expects.specs.Formats.{edition}
 
@@ -68,8 +70,9 @@ all-forms-fit = refl
 
 -- The forms of every format.
 format-fits : (m : Format) → all-fit (edition m .forms) ≡ true
-unfolding edition-0-1
+unfolding edition-0-1 text-edition text-forms forms arity-of form-of-kind
 format-fits Format.Surface01 = all-forms-fit
+format-fits Format.Core01 = refl
 
 pub fitting : (m : Format) → Fits (edition m)
 fitting m w f e =

@@ -11,6 +11,10 @@ Gives P (refused r) = Unit
 pub given : {A : Type 0} (P : A → Position → Type 0) {x : Result A} {a : A} {q : Position} → Gives P x → x ≡ done a q → P a q
 given P g e = subst (λ (y : Result _). Gives P y) e g
 
+pub gives-as : {A : Type 0} (P Q : A → Position → Type 0) (x : Result A) → Gives P x → ((a : A) (q : Position) → P a q → Q a q) → Gives Q x
+gives-as P Q (done a q) g f = f a q g
+gives-as P Q (refused r) g f = tt
+
 pub gives-after : {A B : Type 0} (P : A → Position → Type 0) (Q : B → Position → Type 0) (x : Result A) (k : A → Reader B)
     → Gives P x → ((a : A) (q : Position) → P a q → Gives Q (k a q)) → Gives Q (after x k)
 gives-after P Q (done a q) k g f = f a q g

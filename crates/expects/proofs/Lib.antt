@@ -5,7 +5,9 @@ pub mod Beginnings
 pub mod Heads
 mod Tokens
 mod Formats
+mod CoreForms
 mod Indices
 mod Shapes
 mod Terms
-mod Lines
+pub mod Lines
+mod Strings

@@ -4,6 +4,7 @@ use mathlib.Core.Path.{_≡_, refl, sym, _∙_, ap}
 use mathlib.Core.Bool.{true, false}
 use mathlib.Core.List.{List}
 use mathlib.Core.Option.{none, some}
+use Rattle.token.specs.Token.{next-token}
 use Rattle.token.specs.declared.Token.{Token}
 use Rattle.token.specs.declared.Refusal.{Refusal}
 use Rattle.token.specs.declared.Lexed.{Lexed}
@@ -18,21 +19,21 @@ use Rattle.expects.specs.Formats.{edition}
 use Rattle.expects.specs.Expects.{position-at, Reads, Heads}
 use Rattle.expects.specs.Lines.{tag, version-0-1, named, ClosesVersion, SurfaceLine, ModuleLine}
 
-after-after : {A B C : Type 0} (x : Result A) (f : A → Reader B) (g : B → Reader C) → after (after x f) g ≡ after x (λ a q. after (f a q) g)
+pub after-after : {A B C : Type 0} (x : Result A) (f : A → Reader B) (g : B → Reader C) → after (after x f) g ≡ after x (λ a q. after (f a q) g)
 after-after (done a q) f g = refl
 after-after (refused r) f g = refl
 
 -- A line is its tag and the rest.
-tag-first : {B : Type 0} (s w : List ℕ) (k : Token → Reader B) (p : Position) → (opening s >>= (λ o. word s w >>= k)) p ≡ (tag s w >>= k) p
+pub tag-first : {B : Type 0} (next : ℕ → Lexed) (s w : List ℕ) (k : Token → Reader B) (p : Position) → (opening next >>= (λ o. word next s w >>= k)) p ≡ (tag next s w >>= k) p
 unfolding tag
-tag-first s w k p = sym (after-after (opening s p) (λ o. word s w) k)
+tag-first next s w k p = sym (after-after (opening next p) (λ o. word next s w) k)
 
-module _ (s w : List ℕ) (at : ℕ) (x : Lexed) (h : Reads s (opening s) at x) where
-  pub tag-refused : (r : Refusal) → x ≡ Refused r → Reads s (tag s w) at (Refused r)
+module _ (next : ℕ → Lexed) (s w : List ℕ) (at : ℕ) (x : Lexed) (h : Reads (opening next) at x) where
+  pub tag-refused : (r : Refusal) → x ≡ Refused r → Reads (tag next s w) at (Refused r)
   unfolding tag
   tag-refused r e = λ n. rw (h n, e)
 
-  pub tag-got : (o : Token) → x ≡ Got o → (y : Lexed) → Reads s (word s w) (o .end) y → Reads s (tag s w) at y
+  pub tag-got : (o : Token) → x ≡ Got o → (y : Lexed) → Reads (word next s w) (o .end) y → Reads (tag next s w) at y
   unfolding tag
   tag-got o e y g = λ n. rw (h n, e) (g n)
 
@@ -45,7 +46,7 @@ unfolding edition-of
 edition-none s major minor v = rw (v, edition-of)
 
 -- The closing parenthesis of the surface line, and the version.
-module _ (s : List ℕ) (major minor : Token) (x : Lexed) (h : Reads s (closing s) (minor .end) x) where
+module _ (s : List ℕ) (major minor : Token) (x : Lexed) (h : Reads (closing (next-token s)) (minor .end) x) where
   pub version-refused : (r : Refusal) → x ≡ Refused r → ClosesVersion s major minor (Refused r)
   version-refused r e = λ n. rw (h n, e)
 
@@ -58,43 +59,43 @@ module _ (s : List ℕ) (major minor : Token) (x : Lexed) (h : Reads s (closing 
     unfolding supported
     version-not v = λ n. rw (h n, e, edition-none s major minor v)
 
-module _ (s : List ℕ) (x : Lexed) (h : Reads s (tag s (ascii "surface")) 0 x) where
+module _ (s : List ℕ) (x : Lexed) (h : Reads (tag (next-token s) s (ascii "surface")) 0 x) where
   pub surface-refused : (r : Refusal) → x ≡ Refused r → SurfaceLine s (Refused r)
   unfolding surface-line
-  surface-refused r e = λ n. tag-first s (ascii "surface") _ (position-at 0 n) ∙ rw (h n, e)
+  surface-refused r e = λ n. tag-first (next-token s) s (ascii "surface") _ (position-at 0 n) ∙ rw (h n, e)
 
-  module _ (w : Token) (e : x ≡ Got w) (y : Lexed) (g : Reads s (natural s) (w .end) y) where
+  module _ (w : Token) (e : x ≡ Got w) (y : Lexed) (g : Reads (natural (next-token s) s) (w .end) y) where
     pub major-refused : (r : Refusal) → y ≡ Refused r → SurfaceLine s (Refused r)
     unfolding surface-line
-    major-refused r i = λ n. tag-first s (ascii "surface") _ (position-at 0 n) ∙ rw (h n, e, g n, i)
+    major-refused r i = λ n. tag-first (next-token s) s (ascii "surface") _ (position-at 0 n) ∙ rw (h n, e, g n, i)
 
-    module _ (major : Token) (i : y ≡ Got major) (z : Lexed) (f : Reads s (natural s) (major .end) z) where
+    module _ (major : Token) (i : y ≡ Got major) (z : Lexed) (f : Reads (natural (next-token s) s) (major .end) z) where
       pub minor-refused : (r : Refusal) → z ≡ Refused r → SurfaceLine s (Refused r)
       unfolding surface-line
-      minor-refused r j = λ n. tag-first s (ascii "surface") _ (position-at 0 n) ∙ rw (h n, e, g n, i, f n, j)
+      minor-refused r j = λ n. tag-first (next-token s) s (ascii "surface") _ (position-at 0 n) ∙ rw (h n, e, g n, i, f n, j)
 
       pub surface-got : (minor : Token) → z ≡ Got minor → (r : Lexed) → ClosesVersion s major minor r → SurfaceLine s r
       unfolding surface-line
-      surface-got minor j r v = λ n. tag-first s (ascii "surface") _ (position-at 0 n) ∙ rw (h n, e, g n, i, f n, j) (v n)
+      surface-got minor j r v = λ n. tag-first (next-token s) s (ascii "surface") _ (position-at 0 n) ∙ rw (h n, e, g n, i, f n, j) (v n)
 
-module _ (s : List ℕ) (f : Format) (at : ℕ) (x : Lexed) (h : Reads s (tag s (ascii "module")) at x) where
+module _ (s : List ℕ) (f : Format) (at : ℕ) (x : Lexed) (h : Reads (tag (next-token s) s (ascii "module")) at x) where
   pub module-refused : (r : Refusal) → x ≡ Refused r → ModuleLine s f at (HeadRead.Refused r)
   unfolding module-line
-  module-refused r e = λ n. ap (named f) (tag-first s (ascii "module") _ (position-at at n)) ∙ rw (h n, e)
+  module-refused r e = λ n. ap (named f) (tag-first (next-token s) s (ascii "module") _ (position-at at n)) ∙ rw (h n, e)
 
-  module _ (w : Token) (e : x ≡ Got w) (y : Lexed) (g : Reads s (name (edition f) s) (w .end) y) where
+  module _ (w : Token) (e : x ≡ Got w) (y : Lexed) (g : Reads (name (edition f) s) (w .end) y) where
     pub name-refused : (r : Refusal) → y ≡ Refused r → ModuleLine s f at (HeadRead.Refused r)
     unfolding module-line
-    name-refused r i = λ n. ap (named f) (tag-first s (ascii "module") _ (position-at at n)) ∙ rw (h n, e, g n, i)
+    name-refused r i = λ n. ap (named f) (tag-first (next-token s) s (ascii "module") _ (position-at at n)) ∙ rw (h n, e, g n, i)
 
-    module _ (t : Token) (i : y ≡ Got t) (z : Lexed) (k : Reads s (closing s) (t .end) z) where
+    module _ (t : Token) (i : y ≡ Got t) (z : Lexed) (k : Reads (closing (next-token s)) (t .end) z) where
       pub close-refused : (r : Refusal) → z ≡ Refused r → ModuleLine s f at (HeadRead.Refused r)
       unfolding module-line
-      close-refused r j = λ n. ap (named f) (tag-first s (ascii "module") _ (position-at at n)) ∙ rw (h n, e, g n, i, k n, j)
+      close-refused r j = λ n. ap (named f) (tag-first (next-token s) s (ascii "module") _ (position-at at n)) ∙ rw (h n, e, g n, i, k n, j)
 
       pub module-got : (c : Token) → z ≡ Got c → ModuleLine s f at (HeadRead.Name f t (c .end))
       unfolding module-line
-      module-got c j = λ n. ap (named f) (tag-first s (ascii "module") _ (position-at at n)) ∙ rw (h n, e, g n, i, k n, j)
+      module-got c j = λ n. ap (named f) (tag-first (next-token s) s (ascii "module") _ (position-at at n)) ∙ rw (h n, e, g n, i, k n, j)
 
 module _ (s : List ℕ) (x : Lexed) (h : SurfaceLine s x) where
   pub head-refused : (r : Refusal) → x ≡ Refused r → Heads s (HeadRead.Refused r)

@@ -5,7 +5,7 @@ use mathlib.Core.List.{List}
 use mathlib.Core.Option.{Option, none, some}
 use native.Mathlib.Omega.{arith}
 use lib.ListN.{length}
-use Rattle.token.specs.Token.{next-token}
+use Rattle.token.proofs.Bounds.{Within}
 use Rattle.token.specs.declared.TokenKind.{TokenKind}
 use Rattle.token.specs.declared.Token.{Token}
 use Rattle.token.specs.declared.Refusal.{Refusal}
@@ -24,18 +24,18 @@ use Rattle.expects.specs.Tokens.{TokenInside}
 use Rattle.expects.specs.Terms.{LabelWith, LabelAlone, BeginsOn, BeginsWith, ClosesLeaf}
 use Rattle.expects.proofs.Shapes.{form-is}
 use Rattle.expects.proofs.Arities.{Fits}
-use Rattle.expects.proofs.Ahead.{next-inside, inside-got, name-inside}
+use Rattle.expects.proofs.Ahead.{source-of, name-ahead, next-inside, inside-got, read-inside}
 
 -- A term that ends with its atom x and a closing parenthesis.
-module _ (s : List ℕ) (kind offset : ℕ) (x : Lexed) where
-  pub leaf-refused : (r : Refusal) → x ≡ Refused r → ClosesLeaf s kind offset x (Begun.Refused r)
+module _ (E : Edition) (s : List ℕ) (kind offset : ℕ) (x : Lexed) where
+  pub leaf-refused : (r : Refusal) → x ≡ Refused r → ClosesLeaf E s kind offset x (Begun.Refused r)
   leaf-refused r e = λ small within n. rw e
 
-  module _ (t : Token) (e : x ≡ Got t) (y : Lexed) (h : Reads s (closing s) (t .end) y) where
-    pub leaf-unclosed : (r : Refusal) → y ≡ Refused r → ClosesLeaf s kind offset x (Begun.Refused r)
+  module _ (t : Token) (e : x ≡ Got t) (y : Lexed) (h : Reads (closing (E .tokens s)) (t .end) y) where
+    pub leaf-unclosed : (r : Refusal) → y ≡ Refused r → ClosesLeaf E s kind offset x (Begun.Refused r)
     leaf-unclosed r i = λ small within n. rw (e, h n, i)
 
-    pub leaf-got : (c : Token) → y ≡ Got c → TokenInside (length s) t → (l : Label) → LabelWith kind t offset l → ClosesLeaf s kind offset x (Begun.Leaf l (c .end))
+    pub leaf-got : (c : Token) → y ≡ Got c → TokenInside (length s) t → (l : Label) → LabelWith kind t offset l → ClosesLeaf E s kind offset x (Begun.Leaf l (c .end))
     leaf-got c i a l f = λ small within n. rw (e, h n, i, f (omega arith) (omega arith))
 
 bare-other : (E : Edition) (s : List ℕ) (t : Token) (f : Form) (sh : Shape) (p : Position) → (shape-number sh ≡ 1 → ⊥) → bare E s t f sh p ≡ refused (at-token 1 t)
@@ -66,30 +66,30 @@ module _ (E : Edition) (s : List ℕ) (t : Token) (f : FormOfWord) (e : f ≡ fo
 module _ (E : Edition) (s : List ℕ) (o w : Token) (f : FormOfWord) (e : f ≡ form-numbers (form-of-word (text s w) (E .forms))) where
   -- With a name or a numeral x: a term that ends with it, or a frame.
   module _ (x : Lexed) where
-    pub name-leaf : f .shape ≡ 2 → Reads s (name E s) (w .end) x → (r : Begun) → ClosesLeaf s (f .kind) (o .start) x r → BeginsWith E s o w r
+    pub name-leaf : f .shape ≡ 2 → Reads (name E s) (w .end) x → (r : Begun) → ClosesLeaf E s (f .kind) (o .start) x r → BeginsWith E s o w r
     unfolding known tagged
     name-leaf q h r c =
         let i = form-is (form-of-word (text s w) (E .forms)) f with-name e q in
         λ small inside n. rw (i .is, i .shape, h n, i .kind) (c small (omega arith) n)
 
-    pub numeral-leaf : f .shape ≡ 3 → Reads s (natural s) (w .end) x → (r : Begun) → ClosesLeaf s (f .kind) (o .start) x r → BeginsWith E s o w r
+    pub numeral-leaf : f .shape ≡ 3 → Reads (natural (E .tokens s) s) (w .end) x → (r : Begun) → ClosesLeaf E s (f .kind) (o .start) x r → BeginsWith E s o w r
     unfolding known tagged
     numeral-leaf q h r c =
         let i = form-is (form-of-word (text s w) (E .forms)) f with-numeral e q in
         λ small inside n. rw (i .is, i .shape, h n, i .kind) (c small (omega arith) n)
 
-    module _ (q : f .shape ≡ 4) (h : Reads s (name E s) (w .end) x) where
+    module _ (q : f .shape ≡ 4) (h : Reads (name E s) (w .end) x) where
       pub binder-refused : (r : Refusal) → x ≡ Refused r → BeginsWith E s o w (Begun.Refused r)
       unfolding known tagged
       binder-refused r j =
           let i = form-is (form-of-word (text s w) (E .forms)) f binding e q in
           λ small inside n. rw (i .is, i .shape, h n, j)
 
-      pub binder-frame : Fits E → (b : Token) → x ≡ Got b → (l : Label) → LabelWith (f .kind) b (o .start) l → BeginsWith E s o w (Begun.Frame l (b .end))
+      pub binder-frame : ((s : List ℕ) (at : ℕ) → Within at (length s) (E .tokens s at)) → Fits E → (b : Token) → x ≡ Got b → (l : Label) → LabelWith (f .kind) b (o .start) l → BeginsWith E s o w (Begun.Frame l (b .end))
       unfolding known tagged
-      binder-frame fit b j l a =
+      binder-frame within fit b j l a =
           let i = form-is (form-of-word (text s w) (E .forms)) f binding e q in
-          let k = inside-got (length s) x b (name-inside s (w .end) x E h) j in
+          let k = inside-got (length s) x b (read-inside s (name E s) (name-ahead E within s) (w .end) x h) j in
           λ small inside n. rw (i .is, i .shape, h n, j, sym (fit _ _ (i .is) .arity-is), i .kind, a (omega arith) (omega arith))
 
   pub plain-frame : Fits E → f .shape ≡ 5 → (l : Label) → LabelAlone (f .kind) (o .start) l → BeginsWith E s o w (Begun.Frame l (w .end))
@@ -117,7 +117,7 @@ module _ (E : Edition) (s : List ℕ) (o w : Token) (f : FormOfWord) (e : f ≡ 
       by (some g) d p = let q = ap (λ x. x .shape) d in tagged-other g (g .shape) p (λ z. n2 (q ∙ z)) (λ z. n3 (q ∙ z)) (λ z. n4 (q ∙ z)) (λ z. n5 (q ∙ z))
 
 -- Behind the parenthesis o, where x is read for an atom.
-module _ (E : Edition) (s : List ℕ) (o : Token) (x : Lexed) (h : Reads s (atom s) (o .end) x) where
+module _ (E : Edition) (s : List ℕ) (o : Token) (x : Lexed) (h : Reads (atom (E .tokens s)) (o .end) x) where
   pub form-refused : (r : Refusal) → x ≡ Refused r → BeginsOn E s o TokenKind.LParen (Begun.Refused r)
   unfolding beginning-on
   form-refused r e = λ small inside n. rw (h n, e)
@@ -127,7 +127,7 @@ module _ (E : Edition) (s : List ℕ) (o : Token) (x : Lexed) (h : Reads s (atom
   form-got w e r b = λ small inside n. rw (h n, e) (b small inside n)
 
 -- A term, where x stands next.
-module _ (E : Edition) (s : List ℕ) (at : ℕ) (x : Lexed) (h : x ≡ next-token s at) where
+module _ (E : Edition) (within : (s : List ℕ) (at : ℕ) → Within at (length s) (E .tokens s at)) (s : List ℕ) (at : ℕ) (x : Lexed) (h : x ≡ E .tokens s at) where
   pub term-refused : (r : Refusal) → x ≡ Refused r → Begins E s at (Begun.Refused r)
   unfolding beginning token
   term-refused r e = λ small n. rw (sym h ∙ e)
@@ -137,7 +137,7 @@ module _ (E : Edition) (s : List ℕ) (at : ℕ) (x : Lexed) (h : x ≡ next-tok
     unfolding beginning token
     term-on k i f r b =
         λ small n.
-        rw (sym h ∙ e) (ap (λ j. beginning-on E s t j (position-at (t .end) n)) i ∙ b small (next-inside s at t (sym h ∙ e) (λ z. f (sym i ∙ z))) n)
+        rw (sym h ∙ e) (ap (λ j. beginning-on E s t j (position-at (t .end) n)) i ∙ b small (next-inside (source-of E within s) at t (sym h ∙ e) (λ z. f (sym i ∙ z))) n)
 
     pub term-not : (t .kind ≡ TokenKind.LParen → ⊥) → (t .kind ≡ TokenKind.Atom → ⊥) → (r : Refusal) → r ≡ at-token 1 t → Begins E s at (Begun.Refused r)
     unfolding beginning token beginning-on
@@ -147,4 +147,5 @@ module _ (E : Edition) (s : List ℕ) (at : ℕ) (x : Lexed) (h : x ≡ next-tok
         by TokenKind.LParen f g p = absurd (f refl)
         by TokenKind.RParen f g p = refl
         by TokenKind.Atom f g p = absurd (g refl)
+        by TokenKind.String f g p = refl
         by TokenKind.Eof f g p = refl

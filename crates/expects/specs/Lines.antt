@@ -3,6 +3,7 @@ use mathlib.Core.Path.{_≡_}
 use mathlib.Core.Bool.{Bool, _&&_}
 use mathlib.Core.List.{List}
 use Prim.Native.Nat.{ℕ}
+use Rattle.token.specs.Token.{next-token}
 use Rattle.token.specs.declared.Token.{Token}
 use Rattle.token.specs.declared.Lexed.{Lexed}
 use Rattle.token.specs.declared.Lexed.the-variants.{Got, Refused}
@@ -25,13 +26,13 @@ edition-read n (Refused r) = refused r
 abbrev pub named : Format → Result Token → Result Head
 named f y = after y (λ x. pure (record { edition = edition f; name = x }))
 
-module _ (s : List ℕ) where
-  -- The parenthesis and the word that a line begins with.
-  unfoldable pub tag : List ℕ → Reader Token
-  tag w = do
-    o ← opening s
-    word s w
+-- The parenthesis and the word that a line begins with.
+unfoldable pub tag : (ℕ → Lexed) → List ℕ → List ℕ → Reader Token
+tag next s w = do
+  o ← opening next
+  word next s w
 
+module _ (s : List ℕ) where
   -- Whether two numerals are 0 and 1.
   abbrev pub version-0-1 : Token → Token → Bool
   version-0-1 major minor = same-bytes (text s major) (ascii "0") && same-bytes (text s minor) (ascii "1")
@@ -39,7 +40,7 @@ module _ (s : List ℕ) where
   -- The rest of the surface line, behind its two numerals.
   abbrev pub ClosesVersion : Token → Token → Lexed → Type 0
   ClosesVersion major minor r =
-      (n : ℕ) → (closing s >>= (λ c. supported (edition-of (text s major) (text s minor)))) (position-at (minor .end) n) ≡ edition-read n r
+      (n : ℕ) → (closing (next-token s) >>= (λ c. supported (edition-of (text s major) (text s minor)))) (position-at (minor .end) n) ≡ edition-read n r
 
   abbrev pub SurfaceLine : Lexed → Type 0
   SurfaceLine r = (n : ℕ) → surface-line s (position-at 0 n) ≡ edition-read n r

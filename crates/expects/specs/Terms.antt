@@ -39,6 +39,6 @@ module _ (E : Edition) (s : List ℕ) where
       → known E s (λ f. tagged E s o w f (f .shape)) w (form-of-word (text s w) (E .forms)) (position-at (w .end) n) ≡ begun n r
 
 -- The rest of a term with the name or numeral x: its closing parenthesis.
-abbrev pub ClosesLeaf : List ℕ → ℕ → ℕ → Lexed → Begun → Type 0
-ClosesLeaf s kind offset x r =
-    length s ≤ 4294967295 → offset ≤ length s → (n : ℕ) → after (lexed s n x) (λ t. closing s >>= (λ c. pure (leaf (label-of kind t offset)))) ≡ begun n r
+abbrev pub ClosesLeaf : Edition → List ℕ → ℕ → ℕ → Lexed → Begun → Type 0
+ClosesLeaf E s kind offset x r =
+    length s ≤ 4294967295 → offset ≤ length s → (n : ℕ) → after (lexed n x) (λ t. closing (E .tokens s) >>= (λ c. pure (leaf (label-of kind t offset)))) ≡ begun n r

@@ -1,9 +1,7 @@
 -- Tokens by the number of their kind, and their place in a source.
 use mathlib.Core.Path.{_≡_}
-use mathlib.Core.List.{List}
 use Prim.Native.Nat.{ℕ, _≤_}
 use lib.Dec.{eqb}
-use Rattle.token.specs.Token.{next-token}
 use Rattle.token.specs.declared.TokenKind.{TokenKind}
 use Rattle.token.specs.declared.Token.{Token}
 use Rattle.token.specs.declared.Lexed.{Lexed}
@@ -17,17 +15,18 @@ kind-number TokenKind.LParen = 0
 kind-number TokenKind.RParen = 1
 kind-number TokenKind.Atom = 2
 kind-number TokenKind.Eof = 3
+kind-number TokenKind.String = 4
 
 -- A token of a wanted kind: `opening`, `closing` and `atom` are this.
-unfoldable pub of-kind : List ℕ → TokenKind → Reader Token
-of-kind s wanted = do
-  t ← token s
+unfoldable pub of-kind : (ℕ → Lexed) → TokenKind → Reader Token
+of-kind next wanted = do
+  t ← token next
   require (eqb (kind-number (t .kind)) (kind-number wanted)) (at-token 1 t)
   pure t
 
--- r is that token, where l stands next in a source at an offset.
+-- r is that token, where l stands next at an offset.
 abbrev pub OfKind : Lexed → TokenKind → Lexed → Type 0
-OfKind l wanted r = (s : List ℕ) (at : ℕ) → l ≡ next-token s at → Reads s (of-kind s wanted) at r
+OfKind l wanted r = (next : ℕ → Lexed) (at : ℕ) → l ≡ next at → Reads (of-kind next wanted) at r
 
 -- A token that stands in a source of so many bytes.
 pub record TokenInside (hi : ℕ) (t : Token) : Type 0 where

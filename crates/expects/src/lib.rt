@@ -3,13 +3,15 @@
 ghost use mathlib.Core.Path.{_≡_};
 ghost use Prim.Native.Nat.{ℕ, _≤_, _<_};
 ghost use lib.ListN.{length};
-ghost use Rattle.token.specs.Token.{next-token};
 ghost use Rattle.terms.specs.Forms.{forms, form-of-word};
+ghost use Rattle.terms.specs.TextForms.{text-forms};
+ghost use Rattle.core_text.specs.TextReading.{end-token};
 ghost use Rattle.surface.specs.Reader.{nowhere, at-offset};
 ghost use Rattle.surface.specs.Reading.{opening, closing, atom, word, natural, name, declaration-kind};
-ghost use Rattle.expects.specs.Expects.{Reads, Begins, Heads};
-ghost use Rattle.expects.specs.Formats.{edition, tested-name};
-ghost use Rattle.expects.specs.FormOfWord.{form-numbers, form-at};
+ghost use Rattle.expects.specs.Expects.{Reads, Begins, Names, Heads};
+ghost use Rattle.expects.specs.declared.Format.{Format};
+ghost use Rattle.expects.specs.Formats.{edition, ends, tested-name};
+ghost use Rattle.expects.specs.FormOfWord.{form-numbers, form-at, unnamed-numbers};
 ghost use Rattle.expects.specs.Tokens.{kind-number, TokenInside, LexedInside, OfKind};
 ghost use Rattle.expects.specs.Terms.{LabelWith, LabelAlone, BeginsOn, BeginsWith, ClosesLeaf};
 ghost use Rattle.expects.specs.Lines.{tag, version-0-1, ClosesVersion, SurfaceLine, ModuleLine};
@@ -21,9 +23,10 @@ use token::Token;
 use token::TokenKind;
 use words::NameTest;
 
-// The formats that are read: which words are reserved and which have a form. One is known.
+// The formats that are read: what their tokens are, which words are reserved and which have a form.
 pub enum Format {
     Surface01,
+    Core01,
 }
 
 // What a term begins with, and where reading goes on: the whole of a term without arguments, or a frame.
@@ -36,6 +39,12 @@ pub enum Begun {
 // The format, the module's name, and where reading goes on.
 pub enum HeadRead {
     Name(Format, Token, usize),
+    Refused(Refusal),
+}
+
+// A declaration's name, and where reading goes on behind it.
+pub enum NameRead {
+    Got(Token, usize),
     Refused(Refusal),
 }
 
@@ -74,12 +83,23 @@ fn kind_number(k: TokenKind) -> u8
         TokenKind::RParen => 1,
         TokenKind::Atom => 2,
         TokenKind::Eof => 3,
+        TokenKind::String => 4,
+    }
+}
+
+// The next token of a format.
+fn lex(s: &[u8], at: usize, format: Format) -> Lexed
+    ensures { λ r. ⌜ r ≡ edition format .tokens (now (s .entry)) at ⌝ }
+{
+    match format {
+        Format::Surface01 => token::next_token(s, at),
+        Format::Core01 => core_token::next_core_token(s, at),
     }
 }
 
 // The next token. An opening parenthesis that stands at its place is told there, before layout is looked for.
-fn open_at(s: &[u8], at: usize) -> Lexed
-    ensures { λ r. ⌜ r ≡ next-token (now (s .entry)) at ⌝ }
+fn open_at(s: &[u8], at: usize, format: Format) -> Lexed
+    ensures { λ r. ⌜ r ≡ edition format .tokens (now (s .entry)) at ⌝ }
 {
     if at < s.len() {
         if s[at] == 40 {
@@ -91,12 +111,12 @@ fn open_at(s: &[u8], at: usize) -> Lexed
             });
         }
     }
-    token::next_token(s, at)
+    lex(s, at, format)
 }
 
 // The same for a closing parenthesis.
-fn close_at(s: &[u8], at: usize) -> Lexed
-    ensures { λ r. ⌜ r ≡ next-token (now (s .entry)) at ⌝ }
+fn close_at(s: &[u8], at: usize, format: Format) -> Lexed
+    ensures { λ r. ⌜ r ≡ edition format .tokens (now (s .entry)) at ⌝ }
 {
     if at < s.len() {
         if s[at] == 41 {
@@ -108,12 +128,12 @@ fn close_at(s: &[u8], at: usize) -> Lexed
             });
         }
     }
-    token::next_token(s, at)
+    lex(s, at, format)
 }
 
 // One space, as often stands between two tokens, is passed before the token is looked at.
 fn behind_space(s: &[u8], at: usize) -> usize
-    ensures { λ r. ⌜ next-token (now (s .entry)) r ≡ next-token (now (s .entry)) at ⌝ }
+    ensures { λ r. ⌜ ((f : Format) → edition f .tokens (now (s .entry)) r ≡ edition f .tokens (now (s .entry)) at) ⌝ }
 {
     if at < s.len() {
         if s[at] == 32 {
@@ -123,10 +143,10 @@ fn behind_space(s: &[u8], at: usize) -> usize
     at
 }
 
-pub fn next_token(s: &[u8], at: usize) -> Lexed
-    ensures { λ r. ⌜ r ≡ next-token (now (s .entry)) at ⌝ }
+pub fn next_token(s: &[u8], at: usize, format: Format) -> Lexed
+    ensures { λ r. ⌜ r ≡ edition format .tokens (now (s .entry)) at ⌝ }
 {
-    open_at(s, behind_space(s, at))
+    open_at(s, behind_space(s, at), format)
 }
 
 // A token that was read, which must be of the wanted kind.
@@ -146,28 +166,35 @@ fn expect_kind(l: Lexed, wanted: TokenKind) -> Lexed
     }
 }
 
-pub fn expect_lparen(s: &[u8], at: usize) -> Lexed
-    ensures { λ r. ⌜ Reads (now (s .entry)) (opening (now (s .entry))) at r ⌝ }
+pub fn expect_lparen(s: &[u8], at: usize, format: Format) -> Lexed
+    ensures { λ r. ⌜ Reads (opening (edition format .tokens (now (s .entry)))) at r ⌝ }
 {
-    expect_kind(open_at(s, at), TokenKind::LParen)
+    expect_kind(open_at(s, at, format), TokenKind::LParen)
 }
 
-pub fn expect_rparen(s: &[u8], at: usize) -> Lexed
-    ensures { λ r. ⌜ Reads (now (s .entry)) (closing (now (s .entry))) at r ⌝ }
+pub fn expect_rparen(s: &[u8], at: usize, format: Format) -> Lexed
+    ensures { λ r. ⌜ Reads (closing (edition format .tokens (now (s .entry)))) at r ⌝ }
 {
-    expect_kind(close_at(s, at), TokenKind::RParen)
+    expect_kind(close_at(s, at, format), TokenKind::RParen)
 }
 
-pub fn next_atom(s: &[u8], at: usize) -> Lexed
-    ensures { λ r. ⌜ Reads (now (s .entry)) (atom (now (s .entry))) at r ⌝ }
+// The end of a core text.
+pub fn expect_end(s: &[u8], at: usize, format: Format) -> Lexed
+    ensures { λ r. ⌜ Reads (end-token (edition format .tokens (now (s .entry)))) at r ⌝ }
 {
-    expect_kind(token::next_token(s, at), TokenKind::Atom)
+    expect_kind(lex(s, at, format), TokenKind::Eof)
 }
 
-pub fn expect_atom(s: &[u8], at: usize, expected: &[u8]) -> Lexed
-    ensures { λ r. ⌜ Reads (now (s .entry)) (word (now (s .entry)) (now (expected .entry))) at r ⌝ }
+pub fn next_atom(s: &[u8], at: usize, format: Format) -> Lexed
+    ensures { λ r. ⌜ Reads (atom (edition format .tokens (now (s .entry)))) at r ⌝ }
 {
-    let l = next_atom(s, at);
+    expect_kind(lex(s, at, format), TokenKind::Atom)
+}
+
+pub fn expect_atom(s: &[u8], at: usize, expected: &[u8], format: Format) -> Lexed
+    ensures { λ r. ⌜ Reads (word (edition format .tokens (now (s .entry))) (now (s .entry)) (now (expected .entry))) at r ⌝ }
+{
+    let l = next_atom(s, at, format);
     match l {
         Lexed::Refused(r) => Lexed::Refused(r),
         Lexed::Got(t) => {
@@ -181,10 +208,10 @@ pub fn expect_atom(s: &[u8], at: usize, expected: &[u8]) -> Lexed
     }
 }
 
-pub fn parse_natural(s: &[u8], at: usize) -> Lexed
-    ensures { λ r. ⌜ Reads (now (s .entry)) (natural (now (s .entry))) at r ⌝ }
+pub fn parse_natural(s: &[u8], at: usize, format: Format) -> Lexed
+    ensures { λ r. ⌜ Reads (natural (edition format .tokens (now (s .entry))) (now (s .entry))) at r ⌝ }
 {
-    let l = next_atom(s, at);
+    let l = next_atom(s, at, format);
     match l {
         Lexed::Refused(r) => Lexed::Refused(r),
         Lexed::Got(t) => {
@@ -204,13 +231,20 @@ fn name_test(w: &[u8], format: Format) -> NameTest
 {
     match format {
         Format::Surface01 => words::name_test(w),
+        // No word is reserved, and nothing is read as an identifier.
+        Format::Core01 => {
+            if words::is_identifier(w) {
+                return NameTest::Name;
+            }
+            NameTest::NotIdentifier
+        }
     }
 }
 
 pub fn parse_identifier(s: &[u8], at: usize, format: Format) -> Lexed
-    ensures { λ r. ⌜ Reads (now (s .entry)) (name (edition format) (now (s .entry))) at r ⌝ }
+    ensures { λ r. ⌜ Reads (name (edition format) (now (s .entry))) at r ⌝ }
 {
-    let l = next_atom(s, at);
+    let l = next_atom(s, at, format);
     match l {
         Lexed::Refused(r) => Lexed::Refused(r),
         Lexed::Got(t) => {
@@ -223,6 +257,63 @@ pub fn parse_identifier(s: &[u8], at: usize, format: Format) -> Lexed
                 NameTest::NotIdentifier => Lexed::Refused(refused_at(1, a)),
             }
         }
+    }
+}
+
+// The name of a declaration of a source: an identifier.
+fn identifier_name(s: &[u8], at: usize) -> NameRead
+    ensures { λ r. ⌜ Names Format.Surface01 (now (s .entry)) at r ⌝ }
+{
+    let l = parse_identifier(s, at, Format::Surface01);
+    match l {
+        Lexed::Refused(r) => NameRead::Refused(r),
+        Lexed::Got(t) => NameRead::Got(t, t.end),
+    }
+}
+
+// The name of a declaration of a core text: a string, of which the bytes between the quotes are kept.
+fn string_name(s: &[u8], at: usize) -> NameRead
+    ensures { λ r. ⌜ Names Format.Core01 (now (s .entry)) at r ⌝ }
+{
+    let l = core_token::next_core_token(s, at);
+    match l {
+        Lexed::Refused(r) => NameRead::Refused(r),
+        Lexed::Got(t) => {
+            let kind = t.kind;
+            let start = t.start;
+            let end = t.end;
+            match kind {
+                TokenKind::String => {
+                    let inside = Token {
+                        kind: TokenKind::String,
+                        start: start + 1,
+                        end: end - 1,
+                    };
+                    NameRead::Got(inside, end)
+                }
+                _ => NameRead::Refused(refused_at(1, start)),
+            }
+        }
+    }
+}
+
+// The name of a declaration.
+pub fn parse_name(s: &[u8], at: usize, format: Format) -> NameRead
+    ensures { λ r. ⌜ Names format (now (s .entry)) at r ⌝ }
+{
+    match format {
+        Format::Surface01 => identifier_name(s, at),
+        Format::Core01 => string_name(s, at),
+    }
+}
+
+// Whether a token ends the declarations.
+pub fn is_ending(kind: TokenKind, format: Format) -> bool
+    ensures { λ r. ⌜ r ≡ ends format kind ⌝ }
+{
+    match format {
+        Format::Surface01 => kind_number(kind) == 3,
+        Format::Core01 => kind_number(kind) == 1,
     }
 }
 
@@ -283,11 +374,43 @@ fn surface_form(w: &[u8]) -> FormOfWord
     }
 }
 
+// The form of a word of core text that is one of surface 0 1: no name is written, neither a reference's nor a binder's.
+fn unnamed(form: FormOfWord) -> FormOfWord
+    ensures { λ r. ⌜ r ≡ unnamed-numbers form ⌝ }
+{
+    let shape = form.shape;
+    match shape {
+        2 => FormOfWord { kind: 0, shape: 0 },
+        4 => FormOfWord {
+            kind: form.kind,
+            shape: 5,
+        },
+        _ => form,
+    }
+}
+
+// The form of a word of core text, given its form in surface 0 1.
+fn core_form(w: &[u8], form: FormOfWord) -> FormOfWord
+    requires { ⌜ form ≡ form-numbers (form-of-word (now w) forms) ⌝ }
+    ensures { λ r. ⌜ r ≡ form-numbers (form-of-word (now (w .entry)) text-forms) ⌝ }
+{
+    if words::same_bytes(w, b"var") {
+        return FormOfWord { kind: 1, shape: 3 };
+    }
+    if words::same_bytes(w, b"global") {
+        return FormOfWord { kind: 2, shape: 3 };
+    }
+    unnamed(form)
+}
+
+// One search of the words for both formats.
 pub fn form_of_word(w: &[u8], format: Format) -> FormOfWord
     ensures { λ r. ⌜ r ≡ form-numbers (form-of-word (now (w .entry)) (edition format .forms)) ⌝ }
 {
+    let form = surface_form(w);
     match format {
-        Format::Surface01 => surface_form(w),
+        Format::Surface01 => form,
+        Format::Core01 => core_form(w, form),
     }
 }
 
@@ -323,14 +446,14 @@ fn label_alone(kind: u32, offset: usize) -> Label
     }
 }
 
-// The term of a word t that stands without a parenthesis.
-fn begin_bare(s: &[u8], t: Token, format: Format) -> Begun
+// The term of a word t that stands without a parenthesis. Such words are the same in all formats.
+fn begin_bare(s: &[u8], t: Token) -> Begun
     requires { ⌜ TokenInside (length (now s)) t ⌝ }
-    ensures { λ r. ⌜ BeginsOn (edition format) (now (s .entry)) t TokenKind.Atom r ⌝ }
+    ensures { λ r. ⌜ ((f : Format) → BeginsOn (edition f) (now (s .entry)) t TokenKind.Atom r) ⌝ }
 {
     let a = t.start;
     let e = t.end;
-    let form = form_of_word(&s[a..e], format);
+    let form = surface_form(&s[a..e]);
     if form.shape == 1 {
         return Begun::Leaf(label_alone(form.kind, a), e);
     }
@@ -338,14 +461,14 @@ fn begin_bare(s: &[u8], t: Token, format: Format) -> Begun
 }
 
 // The term of a kind with the atom x that was read, to its closing parenthesis.
-fn close_leaf(s: &[u8], kind: u32, offset: usize, x: Lexed) -> Begun
+fn close_leaf(s: &[u8], kind: u32, offset: usize, x: Lexed, format: Format) -> Begun
     requires { ⌜ LexedInside (length (now s)) x ⌝ }
-    ensures { λ r. ⌜ ClosesLeaf (now (s .entry)) kind offset x r ⌝ }
+    ensures { λ r. ⌜ ClosesLeaf (edition format) (now (s .entry)) kind offset x r ⌝ }
 {
     match x {
         Lexed::Refused(r) => Begun::Refused(r),
         Lexed::Got(t) => {
-            let c = expect_rparen(s, t.end);
+            let c = expect_rparen(s, t.end, format);
             match c {
                 Lexed::Refused(r) => Begun::Refused(r),
                 Lexed::Got(close) => Begun::Leaf(label_with(kind, t, offset), close.end),
@@ -367,9 +490,9 @@ fn begin_tagged(s: &[u8], lparen: Token, t: Token, format: Format) -> Begun
     let offset = lparen.start;
     match shape {
         // (ref NAME)
-        2 => close_leaf(s, kind, offset, parse_identifier(s, e, format)),
+        2 => close_leaf(s, kind, offset, parse_identifier(s, e, format), format),
         // (universe NUMERAL)
-        3 => close_leaf(s, kind, offset, parse_natural(s, e)),
+        3 => close_leaf(s, kind, offset, parse_natural(s, e, format), format),
         // A binder is read and tested before the frame is opened.
         4 => {
             let x = parse_identifier(s, e, format);
@@ -387,7 +510,7 @@ fn begin_tagged(s: &[u8], lparen: Token, t: Token, format: Format) -> Begun
 fn begin_form(s: &[u8], lparen: Token, format: Format) -> Begun
     ensures { λ r. ⌜ BeginsOn (edition format) (now (s .entry)) lparen TokenKind.LParen r ⌝ }
 {
-    let l = next_atom(s, lparen.end);
+    let l = next_atom(s, lparen.end, format);
     match l {
         Lexed::Refused(r) => Begun::Refused(r),
         Lexed::Got(t) => begin_tagged(s, lparen, t, format),
@@ -398,14 +521,14 @@ fn begin_form(s: &[u8], lparen: Token, format: Format) -> Begun
 pub fn begin_term(s: &[u8], at: usize, format: Format) -> Begun
     ensures { λ r. ⌜ Begins (edition format) (now (s .entry)) at r ⌝ }
 {
-    let l = next_token(s, at);
+    let l = next_token(s, at, format);
     match l {
         Lexed::Refused(r) => Begun::Refused(r),
         Lexed::Got(t) => {
             let kind = t.kind;
             match kind {
                 TokenKind::LParen => begin_form(s, t, format),
-                TokenKind::Atom => begin_bare(s, t, format),
+                TokenKind::Atom => begin_bare(s, t),
                 _ => Begun::Refused(refused_at(1, t.start)),
             }
         }
@@ -413,18 +536,18 @@ pub fn begin_term(s: &[u8], at: usize, format: Format) -> Begun
 }
 
 // The parenthesis and the word that a line of the head begins with.
-fn expect_tag(s: &[u8], at: usize, expected: &[u8]) -> Lexed
-    ensures { λ r. ⌜ Reads (now (s .entry)) (tag (now (s .entry)) (now (expected .entry))) at r ⌝ }
+pub fn expect_tag(s: &[u8], at: usize, expected: &[u8], format: Format) -> Lexed
+    ensures { λ r. ⌜ Reads (tag (edition format .tokens (now (s .entry))) (now (s .entry)) (now (expected .entry))) at r ⌝ }
 {
-    let l = expect_lparen(s, at);
+    let l = expect_lparen(s, at, format);
     match l {
         Lexed::Refused(r) => Lexed::Refused(r),
-        Lexed::Got(lparen) => expect_atom(s, lparen.end, expected),
+        Lexed::Got(lparen) => expect_atom(s, lparen.end, expected, format),
     }
 }
 
 // Whether a version is 0 1, by its bytes.
-fn is_supported(s: &[u8], major: Token, minor: Token) -> bool
+pub fn is_supported(s: &[u8], major: Token, minor: Token) -> bool
     requires { ⌜ TokenInside (length (now s)) major ⌝ }
     requires { ⌜ TokenInside (length (now s)) minor ⌝ }
     ensures { λ r. ⌜ r ≡ version-0-1 (now (s .entry)) major minor ⌝ }
@@ -445,7 +568,7 @@ fn close_version(s: &[u8], major: Token, minor: Token) -> Lexed
     requires { ⌜ TokenInside (length (now s)) minor ⌝ }
     ensures { λ r. ⌜ ClosesVersion (now (s .entry)) major minor r ⌝ }
 {
-    let l = expect_rparen(s, minor.end);
+    let l = expect_rparen(s, minor.end, Format::Surface01);
     match l {
         Lexed::Refused(unclosed) => Lexed::Refused(unclosed),
         Lexed::Got(close) => {
@@ -464,15 +587,15 @@ fn close_version(s: &[u8], major: Token, minor: Token) -> Lexed
 fn surface_line(s: &[u8]) -> Lexed
     ensures { λ r. ⌜ SurfaceLine (now (s .entry)) r ⌝ }
 {
-    let l = expect_tag(s, 0, b"surface");
+    let l = expect_tag(s, 0, b"surface", Format::Surface01);
     match l {
         Lexed::Refused(r) => Lexed::Refused(r),
         Lexed::Got(w) => {
-            let m = parse_natural(s, w.end);
+            let m = parse_natural(s, w.end, Format::Surface01);
             match m {
                 Lexed::Refused(r) => Lexed::Refused(r),
                 Lexed::Got(major) => {
-                    let n = parse_natural(s, major.end);
+                    let n = parse_natural(s, major.end, Format::Surface01);
                     match n {
                         Lexed::Refused(r) => Lexed::Refused(r),
                         Lexed::Got(minor) => close_version(s, major, minor),
@@ -487,7 +610,7 @@ fn surface_line(s: &[u8]) -> Lexed
 fn module_line(s: &[u8], at: usize, format: Format) -> HeadRead
     ensures { λ r. ⌜ ModuleLine (now (s .entry)) format at r ⌝ }
 {
-    let l = expect_tag(s, at, b"module");
+    let l = expect_tag(s, at, b"module", Format::Surface01);
     match l {
         Lexed::Refused(r) => HeadRead::Refused(r),
         Lexed::Got(w) => {
@@ -495,7 +618,7 @@ fn module_line(s: &[u8], at: usize, format: Format) -> HeadRead
             match m {
                 Lexed::Refused(r) => HeadRead::Refused(r),
                 Lexed::Got(x) => {
-                    let c = expect_rparen(s, x.end);
+                    let c = expect_rparen(s, x.end, Format::Surface01);
                     match c {
                         Lexed::Refused(r) => HeadRead::Refused(r),
                         Lexed::Got(close) => HeadRead::Name(format, x, close.end),

@@ -1,5 +1,4 @@
 mod Parts
-mod KindWords
 mod Rows
 mod Example
 pub mod Lengths

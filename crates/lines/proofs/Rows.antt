@@ -14,7 +14,7 @@ use Rattle.terms.specs.Label.{part}
 use Rattle.text.specs.Text.{decimal}
 use Rattle.text.proofs.Writing.{one-more}
 use Rattle.lines.specs.Listing.{spaced, numbers, row-fields, row-line, row-lines, declaration-rows, declaration-line, declaration-lines}
-use Rattle.lines.specs.KindWords.{field-count}
+use Rattle.kind_words.specs.KindWords.{field-count}
 
 numbers-from : (n : ℕ) (t : List ℕ) (a i : ℕ) → numbers n (drop a t) i ≡ numbers n t (a + i)
 unfolding numbers

@@ -1,5 +1,7 @@
 // The listing's text, written into a lent buffer. Document 01, "The listing".
 // Every function is total: a word behind a table's end is 0, and a part of the source ends with the source.
+use kind_words::WORDS;
+use kind_words::kind_at;
 use rows::atom;
 use tables::word_at;
 use text::put;
@@ -14,53 +16,6 @@ ghost use lib.Seq.{sets};
 ghost use Rattle.terms.specs.Label.{part};
 ghost use Rattle.text.specs.Text.{length-in, with-text, decimal};
 ghost use Rattle.lines.specs.Listing.{spaced, kind-word, numbers, row-fields, row-line, row-lines, declaration-word, declaration-rows, declaration-line, declaration-lines, first-line, listing, place-text, refusal-line};
-ghost use Rattle.lines.specs.KindWords.{words, field-count};
-
-// The words of the kinds, one behind the other.
-const WORDS: [u8; 104] =
-    *b"varglobaluniversepilamappsigmapairfstsndidrefljemptyempty-elimunitstarunit-elimnatzerosuccnat-elimannref";
-
-// Start and length of a kind's word in WORDS, and how many numbers stand behind the word in a row's line.
-struct Kind(u8, u8, u8);
-
-const KINDS: [Kind; 25] = [
-    Kind(0, 0, 0), // no kind
-    Kind(0, 3, 1), // var
-    Kind(3, 6, 1), // global
-    Kind(9, 8, 0), // universe
-    Kind(17, 2, 2), // pi
-    Kind(19, 3, 1), // lam
-    Kind(22, 3, 2), // app
-    Kind(25, 5, 2), // sigma
-    Kind(30, 4, 2), // pair
-    Kind(34, 3, 1), // fst
-    Kind(37, 3, 1), // snd
-    Kind(40, 2, 3), // id
-    Kind(42, 4, 1), // refl
-    Kind(46, 1, 6), // j
-    Kind(47, 5, 0), // empty
-    Kind(52, 10, 2), // empty-elim
-    Kind(62, 4, 0), // unit
-    Kind(66, 4, 0), // star
-    Kind(70, 9, 3), // unit-elim
-    Kind(79, 3, 0), // nat
-    Kind(82, 4, 0), // zero
-    Kind(86, 4, 1), // succ
-    Kind(90, 8, 4), // nat-elim
-    Kind(98, 3, 2), // ann
-    Kind(101, 3, 0), // ref
-];
-
-fn kind_at(kind: u32) -> Kind
-    ensures { λ r. ⌜ part words (r .0) (r .1) ≡ kind-word kind ⌝ }
-    ensures { λ r. ⌜ r .2 ≡ field-count kind ⌝ }
-{
-    let i = kind as usize;
-    if i < 25 {
-        return KINDS[i];
-    }
-    Kind(0, 0, 0)
-}
 
 // The table from row k on, of rows that have so many words.
 fn rows_from(t: &[u32], width: usize, k: usize) -> &[u32]

@@ -4,6 +4,7 @@ use mathlib.Core.Path.{_≡_, refl, subst}
 use mathlib.Core.List.{List, [], _∷_}
 use native.Mathlib.Omega.{arith}
 use lib.ListN.{length}
+use Rattle.token.specs.Token.{next-token}
 use Rattle.token.specs.declared.TokenKind.{TokenKind}
 use Rattle.token.specs.declared.Token.{Token}
 use Rattle.token.proofs.Bounds.{Span, SpanOf, Within, bounds}
@@ -34,9 +35,10 @@ spans : (k : TokenKind) (lo a e hi : ℕ) → ¬ (k ≡ TokenKind.Eof) → SpanO
 spans TokenKind.LParen lo a e hi g w = w
 spans TokenKind.RParen lo a e hi g w = w
 spans TokenKind.Atom lo a e hi g w = w
+spans TokenKind.String lo a e hi g w = w
 spans TokenKind.Eof lo a e hi g w = absurd (g refl)
 
-tokens-inside : (s : List ℕ) (at : ℕ) (ts : List Token) → Tokens s at ts → at ≤ length s → token-bytes ts + at ≤ length s
+tokens-inside : (s : List ℕ) (at : ℕ) (ts : List Token) → Tokens (next-token s) at ts → at ≤ length s → token-bytes ts + at ≤ length s
 tokens-inside s at [] (the-end e g) h = omega arith
 tokens-inside s at (t ∷ ts) (the-next e g k) h =
     let w = spans (t .kind) at (t .start) (t .end) (length s) g (subst (Within at (length s)) e (bounds s at)) in

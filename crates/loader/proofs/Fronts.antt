@@ -20,10 +20,10 @@ use Rattle.elaborate.proofs.ResolvedTrees.{records-kept}
 use Rattle.loader.specs.Leaving.{lengths-of}
 
 -- Words that stand at the beginning of a table.
-take-front : (t ws : List ℕ) (n : ℕ) → length ws ≡ n → take n (with-words t 0 ws) ≡ ws
+pub take-front : (t ws : List ℕ) (n : ℕ) → length ws ≡ n → take n (with-words t 0 ws) ≡ ws
 take-front t ws n e = take-at ws (drop (0 + length ws) t) n e
 
-length-records : (s : List ℕ) (ds : List Declaration) → length (joined (read-records 0 ds)) ≡ length ds * 5
+pub length-records : (s : List ℕ) (ds : List Declaration) → length (joined (read-records 0 ds)) ≡ length ds * 5
 length-records s ds =
     ap (λ (l : List (List ℕ)). length (joined l)) (sym (records-kept s [] 0 ds))
     ∙ length-joined 5 (declaration-records 0 (resolve-module s [] ds)) (wide-records 0 (resolve-module s [] ds))

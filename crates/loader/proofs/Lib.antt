@@ -1,9 +1,9 @@
 mod Parsing
 mod WellRead
 pub mod Cleared
-mod Fronts
+pub mod Fronts
 mod Resolving
 mod Stored
-mod Left
+pub mod Left
 mod ParsedTables
 pub mod Statements

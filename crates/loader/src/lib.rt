@@ -128,7 +128,7 @@ fn load_tables(
     }
 }
 
-fn row_count(answer: Answer) -> usize
+pub fn row_count(answer: Answer) -> usize
     ensures { λ r. ⌜ r ≡ row-count answer ⌝ }
 {
     match answer {
@@ -140,7 +140,7 @@ fn row_count(answer: Answer) -> usize
     }
 }
 
-fn declaration_count(answer: Answer) -> usize
+pub fn declaration_count(answer: Answer) -> usize
     ensures { λ r. ⌜ r ≡ declaration-count answer ⌝ }
 {
     match answer {

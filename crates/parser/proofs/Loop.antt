@@ -53,7 +53,7 @@ module _ (s : List ℕ) (m : Setting) (table₀ work₀ : List ℕ) (at n : ℕ)
       let z : m .frames ≡ m .frames - 0 = omega arith in
       record {
         inside = i;
-        same = ap (λ (k : ℕ). term-rows (m .begin) (m .close) (m .limit) k (position-at at n) table₀) z;
+        same = ap (λ (k : ℕ). term-rows (m .begin) (m .close) (m .limit) (m .holds) k (position-at at n) table₀) z;
         table-length = refl;
         work-length = refl;
       }

@@ -13,7 +13,7 @@ use Rattle.token.specs.declared.Refusal.{Refusal}
 use Rattle.rows.specs.Places.{stored-at}
 use Rattle.terms.specs.Forms.{arity-of}
 use Rattle.terms.specs.Label.{Label}
-use Rattle.terms.specs.Rows.{surface-row}
+use Rattle.terms.specs.Rows.{row-holding}
 use Rattle.surface.specs.Reader.{Position, Result, Reader, nowhere}
 use Rattle.surface.specs.Reading.{Beginning, leaf, frame}
 use Rattle.frames.specs.Frames.{OpenFrame, frame-at, open-frames}
@@ -50,20 +50,23 @@ module _ (s : List ℕ) (m : Setting) (table work : List ℕ) (st : State) where
   abbrev limit : ℕ
   limit = m .limit
 
+  abbrev holds : ℕ → Bool
+  holds = m .holds
+
   abbrev here : Position
   here = position-at (st .at) (st .rows)
 
   -- What the first d frames of a work area still do, where that many are open.
   abbrev resumed : List ℕ → ℕ → RowResult → RowResult
-  resumed area d o = resume begin close limit (m .frames - d) (open-frames area d) o
+  resumed area d o = resume begin close limit holds (m .frames - d) (open-frames area d) o
 
   abbrev stores : Label → List ℕ → ℕ → RowResult
-  stores l children e = store-row begin close limit l children (position-at e (st .rows)) table
+  stores l children e = store-row begin close limit holds l children (position-at e (st .rows)) table
 
   -- A state that comes to the storing of a row, with the first d frames of a work area behind it.
   module _ (l : Label) (children : List ℕ) (e d : ℕ) (area : List ℕ) (same : outcome m table work st ≡ resumed area d (stores l children e)) where
     abbrev row : List ℕ
-    row = surface-row (record { label = l; children = children })
+    row = row-holding holds (record { label = l; children = children })
 
     abbrev next-table : List ℕ
     next-table = stored-at 8 table (st .rows) row
@@ -74,8 +77,8 @@ module _ (s : List ℕ) (m : Setting) (table work : List ℕ) (st : State) where
     full : limit ≤ st .rows → outcome m table work st ≡ refused (nowhere 8)
     full h =
         same
-        ∙ ap (resumed area d) (store-no begin close limit l children (position-at e (st .rows)) table h)
-        ∙ resume-refused begin close limit (m .frames - d) (open-frames area d) (nowhere 8)
+        ∙ ap (resumed area d) (store-no begin close limit holds l children (position-at e (st .rows)) table h)
+        ∙ resume-refused begin close limit holds (m .frames - d) (open-frames area d) (nowhere 8)
 
     stored : st .rows < limit → outcome m table work st ≡ outcome m next-table area next-state
     unfolding outcome pending
@@ -83,7 +86,7 @@ module _ (s : List ℕ) (m : Setting) (table work : List ℕ) (st : State) where
         let n = st .rows in
         same
         ∙ ap (resumed area d)
-        (store-yes begin close limit l children (position-at e n) table h ∙ ap (λ (k : ℕ). done n (position-at e k) next-table) (sym (add-one n)))
+        (store-yes begin close limit holds l children (position-at e n) table h ∙ ap (λ (k : ℕ). done n (position-at e k) next-table) (sym (add-one n)))
 
     module _ (i : TermInside (m .frames) s work st) (a : st .at < e) (b : e ≤ length s) (f : d ≤ m .frames) (k : m .frames * 11 ≤ length area)
         (w : Waiting (open-frames area d)) where
@@ -105,8 +108,8 @@ module _ (s : List ℕ) (m : Setting) (table work : List ℕ) (st : State) where
 
   abbrev waits : List OpenFrame → ℕ → ℕ → RowResult
   waits frs e d =
-      resume begin close limit (m .frames - d) frs
-      (term-rows begin close limit (m .frames - d) (position-at e (st .rows)) table)
+      resume begin close limit holds (m .frames - d) frs
+      (term-rows begin close limit holds (m .frames - d) (position-at e (st .rows)) table)
 
   -- A step to a state that is to read a term for its last frame.
   waits-went : (frs : List OpenFrame) (e d : ℕ) (area : List ℕ) → outcome m table work st ≡ waits frs e d → open-frames area d ≡ frs
@@ -122,20 +125,20 @@ module _ (s : List ℕ) (m : Setting) (table work : List ℕ) (st : State) where
   -- A term is to be read.
   module _ (have : st .have ≡ false) where
     reads : outcome m table work st
-        ≡ resumed work (st .depth) (term-rows begin close limit (m .frames - st .depth) here table)
+        ≡ resumed work (st .depth) (term-rows begin close limit holds (m .frames - st .depth) here table)
     unfolding outcome pending
     reads = rw (have, outcome, pending)
 
     pub begin-refused : (r : Refusal) → begin here ≡ Result.refused r → outcome m table work st ≡ refused r
     begin-refused r q =
-        reads ∙ ap (resumed work (st .depth)) (term-refused begin close limit here here table (m .frames - st .depth) r q)
-        ∙ resume-refused begin close limit (m .frames - st .depth) (open-frames work (st .depth)) r
+        reads ∙ ap (resumed work (st .depth)) (term-refused begin close limit holds here here table (m .frames - st .depth) r q)
+        ∙ resume-refused begin close limit holds (m .frames - st .depth) (open-frames work (st .depth)) r
 
     pub leaf-same : (l : Label) (e : ℕ) → begin here ≡ Result.done (leaf l) (position-at e (st .rows))
         → outcome m table work st ≡ resumed work (st .depth) (stores l [] e)
     leaf-same l e q =
         reads
-        ∙ ap (resumed work (st .depth)) (term-leaf begin close limit here (position-at e (st .rows)) table (m .frames - st .depth) l q)
+        ∙ ap (resumed work (st .depth)) (term-leaf begin close limit holds here (position-at e (st .rows)) table (m .frames - st .depth) l q)
 
     pub too-deep : (l : Label) (n : ℕ) (e : ℕ) → begin here ≡ Result.done (frame l n) (position-at e (st .rows)) → m .frames ≤ st .depth
         → outcome m table work st ≡ refused (nowhere 7)
@@ -143,9 +146,9 @@ module _ (s : List ℕ) (m : Setting) (table work : List ℕ) (st : State) where
         let z : m .frames - st .depth ≡ 0 = omega arith in
         reads
         ∙ ap (resumed work (st .depth))
-        (ap (λ (f : ℕ). term-rows begin close limit f here table) z
-        ∙ term-deep begin close limit here (position-at e (st .rows)) table l n q)
-        ∙ resume-refused begin close limit (m .frames - st .depth) (open-frames work (st .depth)) (nowhere 7)
+        (ap (λ (f : ℕ). term-rows begin close limit holds f here table) z
+        ∙ term-deep begin close limit holds here (position-at e (st .rows)) table l n q)
+        ∙ resume-refused begin close limit holds (m .frames - st .depth) (open-frames work (st .depth)) (nowhere 7)
 
     module _ (arities : Arities begin) (l : Label) (n e : ℕ)
         (begun : begin here ≡ Result.done (frame l n) (position-at e (st .rows))) (h : st .depth < m .frames) where
@@ -155,9 +158,9 @@ module _ (s : List ℕ) (m : Setting) (table work : List ℕ) (st : State) where
           let f = m .frames - (st .depth + 1) in
           let z : m .frames - st .depth ≡ suc f = omega arith in
           reads
-          ∙ ap (λ (x : ℕ). resume begin close limit x (open-frames work (st .depth)) (term-rows begin close limit x here table)) z
-          ∙ ap (resume begin close limit (suc f) (open-frames work (st .depth)))
-          (term-frame begin close limit arities f here (position-at e (st .rows)) table l n begun)
+          ∙ ap (λ (x : ℕ). resume begin close limit holds x (open-frames work (st .depth)) (term-rows begin close limit holds x here table)) z
+          ∙ ap (resume begin close limit holds (suc f) (open-frames work (st .depth)))
+          (term-frame begin close limit holds arities f here (position-at e (st .rows)) table l n begun)
 
       pub open-went : (i : TermInside (m .frames) s work st) (area : List ℕ) → st .at < e → e ≤ length s → length area ≡ length work
           → open-frames area (st .depth + 1) ≡ record { label = l; children = [] } ∷ open-frames work (st .depth)
@@ -174,8 +177,8 @@ module _ (s : List ℕ) (m : Setting) (table work : List ℕ) (st : State) where
     f = m .frames - suc d
 
     taken : outcome m table work st
-        ≡ resume begin close limit (suc f) (open-frames work d)
-        (after-term begin close limit (term-rows begin close limit f) (frame-at work d) (done (st .value) here table))
+        ≡ resume begin close limit holds (suc f) (open-frames work d)
+        (after-term begin close limit holds (term-rows begin close limit holds f) (frame-at work d) (done (st .value) here table))
     unfolding outcome pending resume open-frames
     taken = rw (have, deep, outcome, pending, resume, open-frames)
 
@@ -206,32 +209,32 @@ module _ (s : List ℕ) (m : Setting) (table work : List ℕ) (st : State) where
         subst (λ (x : ℕ). Went s m table work st (record { at = st .at; rows = st .rows; depth = x; value = 0; have = false }) table area) (sym deep)
         (waits-went (fr ∷ open-frames work d) (st .at) (suc d) area
         (taken
-        ∙ ap (resume begin close limit (suc f) (open-frames work d))
-        (after-more begin close limit (term-rows begin close limit f) (frame-at work d) (st .value) here table
+        ∙ ap (resume begin close limit holds (suc f) (open-frames work d))
+        (after-more begin close limit holds (term-rows begin close limit holds f) (frame-at work d) (st .value) here table
         (omega (arith, length-append (frame-at work d .children) (st .value ∷ [])))))
         pushed i (omega arith) (i .at) (omega arith) k (g, waited .1) (omega arith))
 
     module _ (h : arity-of (frame-at area d .label .kind) ≤ length (frame-at area d .children)) where
       last : outcome m table work st
-          ≡ resumed area d (close-row begin close limit (frame-at area d .label) (frame-at area d .children) table (close here))
+          ≡ resumed area d (close-row begin close limit holds (frame-at area d .label) (frame-at area d .children) table (close here))
       last =
           let g : arity-of (fr .label .kind) ≤ length (fr .children) = subst (λ (x : OpenFrame). arity-of (x .label .kind) ≤ length (x .children)) the-frame h in
           let z : suc f ≡ m .frames - d = omega arith in
           taken
-          ∙ ap (resume begin close limit (suc f) (open-frames work d))
-          (after-last begin close limit (term-rows begin close limit f) (frame-at work d) (st .value) here table
+          ∙ ap (resume begin close limit holds (suc f) (open-frames work d))
+          (after-last begin close limit holds (term-rows begin close limit holds f) (frame-at work d) (st .value) here table
           (omega (arith, waited .0, length-append (frame-at work d .children) (st .value ∷ []))))
-          ∙ (λ j. resume begin close limit (z j) (sym the-others j)
-          (close-row begin close limit (sym the-frame j .label) (sym the-frame j .children) table (close here)))
+          ∙ (λ j. resume begin close limit holds (z j) (sym the-others j)
+          (close-row begin close limit holds (sym the-frame j .label) (sym the-frame j .children) table (close here)))
 
       pub close-refused : (r : Refusal) → close here ≡ Result.refused r → outcome m table work st ≡ refused r
       unfolding close-row
       close-refused r q =
-          last ∙ ap (λ (x : Result Token). resumed area d (close-row begin close limit (frame-at area d .label) (frame-at area d .children) table x)) q
-          ∙ resume-refused begin close limit (m .frames - d) (open-frames area d) r
+          last ∙ ap (λ (x : Result Token). resumed area d (close-row begin close limit holds (frame-at area d .label) (frame-at area d .children) table x)) q
+          ∙ resume-refused begin close limit holds (m .frames - d) (open-frames area d) r
 
       pub close-same : (c : Token) (e : ℕ) → close here ≡ Result.done c (position-at e (st .rows))
           → outcome m table work st ≡ resumed area d (stores (frame-at area d .label) (frame-at area d .children) e)
       unfolding close-row
       close-same c e q =
-          last ∙ ap (λ (x : Result Token). resumed area d (close-row begin close limit (frame-at area d .label) (frame-at area d .children) table x)) q
+          last ∙ ap (λ (x : Result Token). resumed area d (close-row begin close limit holds (frame-at area d .label) (frame-at area d .children) table x)) q

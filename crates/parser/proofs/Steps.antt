@@ -11,7 +11,7 @@ use Rattle.token.specs.declared.Token.{Token}
 use Rattle.token.specs.declared.Refusal.{Refusal}
 use Rattle.terms.specs.Forms.{arity-of}
 use Rattle.terms.specs.Label.{Label}
-use Rattle.terms.specs.Rows.{surface-row}
+use Rattle.terms.specs.Rows.{row-holding}
 use Rattle.rows.proofs.Arities.{arity-at-most-six}
 use Rattle.frames.proofs.OpenFrames.{frames-opened, frames-pushed}
 use Rattle.frames.specs.declared.TermFrame.{TermFrame}
@@ -37,7 +37,7 @@ module _ (s : List ℕ) (m : Setting) (sound : Sound s m) (table work : List ℕ
     refused-step r e = begin-refused s m table work st have r (begun-at _ e)
 
     pub leaf-step : (l : Label) (next : ℕ) (r : TermStep) (table₁ : List ℕ) → x ≡ Begun.Leaf l next
-        → r ≡ pushed-term (m .limit) (st .rows) next (st .depth) → table₁ ≡ pushed-row (m .limit) table (st .rows) (surface-row (record { label = l; children = [] }))
+        → r ≡ pushed-term (m .limit) (st .rows) next (st .depth) → table₁ ≡ pushed-row (m .limit) table (st .rows) (row-holding (m .holds) (record { label = l; children = [] }))
         → TermStepped s m table work st r table₁ work
     leaf-step l next r table₁ e q t =
         let b = begun-at _ e in
@@ -85,21 +85,21 @@ module _ (s : List ℕ) (m : Setting) (sound : Sound s m) (table work : List ℕ
     more-step h k = more-went s m table work st d have deep i area frames (omega (arith, counted d have deep area)) k
 
     -- It was its last argument, and x is the token behind it.
-    module _ (h : arity-of (kind d have deep area) ≤ count d have deep area) (x : Lexed) (closes : (n : ℕ) → m .close (position-at (st .at) n) ≡ lexed s n x) where
+    module _ (h : arity-of (kind d have deep area) ≤ count d have deep area) (x : Lexed) (closes : (n : ℕ) → m .close (position-at (st .at) n) ≡ lexed n x) where
       last : arity-of (kind d have deep area) ≤ length (frame-at area d .children)
       last = omega (arith, counted d have deep area, arity-at-most-six (kind d have deep area))
 
       pub unclosed-step : (r : Refusal) → x ≡ Lexed.Refused r → outcome m table work st ≡ refused r
-      unclosed-step r e = close-refused s m table work st d have deep i area frames last r (closes (st .rows) ∙ ap (lexed s (st .rows)) e)
+      unclosed-step r e = close-refused s m table work st d have deep i area frames last r (closes (st .rows) ∙ ap (lexed (st .rows)) e)
 
       pub close-step : (t : Token) (f : TermFrame) (r : TermStep) (table₁ : List ℕ) → x ≡ Lexed.Got t → f ≡ term-frame area d → length area ≡ length work
           → r ≡ pushed-term (m .limit) (st .rows) (t .end) d
-          → table₁ ≡ pushed-row (m .limit) table (st .rows) (surface-row (record { label = f .label; children = take (f .len) (f .args) }))
+          → table₁ ≡ pushed-row (m .limit) table (st .rows) (row-holding (m .holds) (record { label = f .label; children = take (f .len) (f .args) }))
           → TermStepped s m table work st r table₁ area
       unfolding frame-at
       close-step t f r table₁ e g k z u =
-          let b = closes (st .rows) ∙ ap (lexed s (st .rows)) e in
+          let b = closes (st .rows) ∙ ap (lexed (st .rows)) e in
           let a = sound .closes _ _ _ b in
           push-stepped s m table work st (frame-at area d .label) (frame-at area d .children) (t .end) d area (close-same s m table work st d have deep i area frames last t (t .end) b)
           i (a .past) (a .high) (omega arith) (omega arith) (others-wait s m table work st d have deep i area frames) r table₁ z
-          (u ∙ ap (λ (v : TermFrame). pushed-row (m .limit) table (st .rows) (surface-row (record { label = v .label; children = take (v .len) (v .args) }))) g)
+          (u ∙ ap (λ (v : TermFrame). pushed-row (m .limit) table (st .rows) (row-holding (m .holds) (record { label = v .label; children = take (v .len) (v .args) }))) g)

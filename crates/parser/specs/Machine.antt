@@ -6,7 +6,7 @@ use Prim.Native.Nat.{ℕ, _+_, _-_, _*_, _≤_, _<_}
 use lib.Dec.{eqb, ltb, leb}
 use lib.ListN.{length}
 use Rattle.token.specs.declared.Token.{Token}
-use Rattle.terms.specs.Forms.{Edition, arity-of}
+use Rattle.terms.specs.Forms.{Edition, arity-of, holds-span-in}
 use Rattle.surface.specs.Reader.{Position, Reader, nowhere}
 use Rattle.surface.specs.Reading.{Beginning, beginning, closing}
 use Rattle.rows.specs.Places.{stored-at}
@@ -18,26 +18,27 @@ use Rattle.parser.specs.declared.TermStep.{TermStep}
 use Rattle.parser.specs.declared.TermRead.{TermRead}
 
 -- What the machine reads with: the readers of what a term begins with and of what closes a form, how many rows there is room for,
--- and how many frames may be open in one term.
+-- the kinds whose rows hold a start and a length, and how many frames may be open in one term.
 pub record Setting : Type 0 where
   pub begin : Reader Beginning
   pub close : Reader Token
   pub limit : ℕ
+  pub holds : ℕ → Bool
   pub frames : ℕ
 
 -- "7 more than 512 frames open in one term"
-abbrev pub surface : Edition → List ℕ → ℕ → Setting
-surface E s limit = record { begin = beginning E s; close = closing s; limit = limit; frames = 512 }
+abbrev pub setting : Edition → List ℕ → ℕ → Setting
+setting E s limit = record { begin = beginning E s; close = closing (E .tokens s); limit = limit; holds = holds-span-in (E .forms); frames = 512 }
 
 -- What stands in front of the open frames: a complete term, or one that is to be read, where so many frames may still be opened.
 unfoldable pub pending : Setting → ℕ → Bool → ℕ → Position → List ℕ → RowResult
 pending m f true value p w = done value p w
-pending m f false value p w = term-rows (m .begin) (m .close) (m .limit) f p w
+pending m f false value p w = term-rows (m .begin) (m .close) (m .limit) (m .holds) f p w
 
 -- What reading comes to from a state, with the table of rows and the work area: first what is pending, then the open frames.
 unfoldable pub outcome : Setting → List ℕ → List ℕ → State → RowResult
 outcome m table work st =
-    resume (m .begin) (m .close) (m .limit) (m .frames - st .depth) (open-frames work (st .depth))
+    resume (m .begin) (m .close) (m .limit) (m .holds) (m .frames - st .depth) (open-frames work (st .depth))
     (pending m (m .frames - st .depth) (st .have) (st .value) (position-at (st .at) (st .rows)) table)
 
 -- "8 surface row table (..) full when a completed term must be stored": the step that stores a completed term as the next row,
@@ -93,7 +94,7 @@ Reads (refused x) r table₁ = r ≡ TermRead.Refused x
 
 -- A whole type or body from an offset on, behind n rows.
 abbrev pub whole-term : Setting → List ℕ → ℕ → ℕ → RowResult
-whole-term m table at n = term-rows (m .begin) (m .close) (m .limit) (m .frames) (position-at at n) table
+whole-term m table at n = term-rows (m .begin) (m .close) (m .limit) (m .holds) (m .frames) (position-at at n) table
 
 -- The state in which its reading begins.
 abbrev pub first-state : ℕ → ℕ → State
@@ -105,4 +106,4 @@ ready source area at n = leb source 4294967295 && (leb 5632 area && (leb at sour
 
 -- r is the answer for it, where it is inside.
 abbrev pub ReadsTerm : Edition → ℕ → List ℕ → List ℕ → List ℕ → ℕ → ℕ → TermRead → List ℕ → Type 0
-ReadsTerm E limit s table work at n r table₁ = TermInside 512 s work (first-state at n) → Reads (whole-term (surface E s limit) table at n) r table₁
+ReadsTerm E limit s table work at n r table₁ = TermInside 512 s work (first-state at n) → Reads (whole-term (setting E s limit) table at n) r table₁

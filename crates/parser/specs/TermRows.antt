@@ -1,7 +1,7 @@
 -- Terms read straight into a table of rows: the reading order of `surface`, with each completed term stored as a row of words. The contracts
 -- of the frame reader's steps cite it; the law in proofs/ says that it stores the rows of the tree that the reading order gives.
 use mathlib.Core.List.{List, [], _∷_, _++_}
-use mathlib.Core.Bool.{true, false}
+use mathlib.Core.Bool.{Bool, true, false}
 use Prim.Native.Nat.{ℕ, zero, suc, _-_}
 use lib.Dec.{ltb}
 use lib.ListN.{length}
@@ -10,7 +10,7 @@ use Rattle.token.specs.declared.Refusal.{Refusal}
 use Rattle.terms.specs.Forms.{arity-of}
 use Rattle.terms.specs.Label.{Label}
 use Rattle.terms.specs.Tree.{Tree, nil, tree, Cell, next, cells}
-use Rattle.terms.specs.Rows.{surface-row}
+use Rattle.terms.specs.Rows.{row-holding}
 use Rattle.surface.specs.Reader.{Position, Result, Reader, nowhere}
 use Rattle.surface.specs.Reading.{Beginning, leaf, frame}
 use Rattle.rows.specs.Places.{stored-at}
@@ -21,13 +21,14 @@ pub data RowResult : Type 0 where
   done : (row : ℕ) → Position → (table : List ℕ) → RowResult
   refused : Refusal → RowResult
 
--- Given the readers of what a term begins with and of what closes a form, and the number of rows that there is room for.
-module _ (beginning : Reader Beginning) (close : Reader Token) (limit : ℕ) where
+-- Given the readers of what a term begins with and of what closes a form, the number of rows that there is room for, and the kinds whose
+-- rows hold a start and a length.
+module _ (beginning : Reader Beginning) (close : Reader Token) (limit : ℕ) (holds : ℕ → Bool) where
   -- A completed term becomes the next row. Storing is total: what the table has no place for is only counted.
   unfoldable pub store-row : Label → List ℕ → Position → List ℕ → RowResult
   store-row l children p w =
       elim (ltb (p .rows) limit) [
-        | true ↦ done (p .rows) (record { offset = p .offset; rows = suc (p .rows) }) (stored-at 8 w (p .rows) (surface-row (record { label = l; children = children })))
+        | true ↦ done (p .rows) (record { offset = p .offset; rows = suc (p .rows) }) (stored-at 8 w (p .rows) (row-holding holds (record { label = l; children = children })))
         | false ↦ refused (nowhere 8)
       ]
 
@@ -63,11 +64,11 @@ module _ (beginning : Reader Beginning) (close : Reader Token) (limit : ℕ) whe
   resume f (fr ∷ frs) o = resume (suc f) frs (after-term (term-rows f) fr o)
 
 -- Rows stored one behind the other, the first at place n.
-unfoldable pub stored-rows : ℕ → List ℕ → List (Cell Label) → List ℕ
-stored-rows n t [] = t
-stored-rows n t (c ∷ l) = stored-rows (suc n) (stored-at 8 t n (surface-row c)) l
+unfoldable pub stored-rows : (ℕ → Bool) → ℕ → List ℕ → List (Cell Label) → List ℕ
+stored-rows holds n t [] = t
+stored-rows holds n t (c ∷ l) = stored-rows holds (suc n) (stored-at 8 t n (row-holding holds c)) l
 
 -- The rows of a tree that was read behind n rows.
-unfoldable pub as-rows : ℕ → List ℕ → Result (Tree Label) → RowResult
-as-rows n w (Result.done t q) = done (next n (t .args)) q (stored-rows n w (cells n (tree t nil)))
-as-rows n w (Result.refused r) = refused r
+unfoldable pub as-rows : (ℕ → Bool) → ℕ → List ℕ → Result (Tree Label) → RowResult
+as-rows holds n w (Result.done t q) = done (next n (t .args)) q (stored-rows holds n w (cells n (tree t nil)))
+as-rows holds n w (Result.refused r) = refused r

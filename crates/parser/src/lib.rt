@@ -2,13 +2,17 @@
 // The port of `Parser` in surface/parser.rs.
 use expects::Begun;
 use expects::Format;
+use terms::Label;
 use token::Lexed;
 use token::Refusal;
 ghost use mathlib.Core.Path.{_≡_};
 ghost use mathlib.Core.Bool.{true, false};
 ghost use Prim.Native.Nat.{_<_, _≤_};
+ghost use lib.ListN.{take};
+ghost use Rattle.terms.specs.Forms.{holds-span-in};
+ghost use Rattle.terms.specs.Rows.{row-holding};
 ghost use Rattle.expects.specs.Formats.{edition};
-ghost use Rattle.parser.specs.Machine.{surface, pushed-term, pushed-row, ended, TermInside, TermStepped, ready, ReadsTerm};
+ghost use Rattle.parser.specs.Machine.{setting, pushed-term, pushed-row, ended, TermInside, TermStepped, ready, ReadsTerm};
 
 // "more than 512 frames open in one term" are refused.
 const FRAMES: usize = 512;
@@ -38,6 +42,24 @@ pub enum TermStep {
 pub enum TermRead {
     Done { row: u32, rows: usize, next: usize },
     Refused(Refusal),
+}
+
+// Whether a term of each kind has the start and length of an atom in its row.
+fn holds_span(kind: u32, format: Format) -> bool
+    ensures { λ r. ⌜ r ≡ holds-span-in (edition format .forms) kind ⌝ }
+{
+    match format {
+        Format::Surface01 => rows::holds_span(kind),
+        Format::Core01 => rows::holds_numeral(kind),
+    }
+}
+
+// The row of a term that was read.
+fn term_row(label: Label, args: [u32; 6], len: u32, format: Format) -> [u32; 8]
+    ensures { λ r. ⌜ r ≡ row-holding (holds-span-in (edition format .forms)) (record { label = label; children = take len args }) ⌝ }
+{
+    let span = holds_span(label.kind, format);
+    rows::row_words(label, span, args, len)
 }
 
 // A completed term becomes the next row, where there is room for one more.
@@ -77,7 +99,7 @@ fn term_step(
 ) -> TermStep
     requires { ⌜ TermInside 512 (now s) (now work) st ⌝ }
     requires { ⌜ st .have ≡ false ⌝ }
-    ensures { λ r. ⌜ TermStepped (now (s .entry)) (surface (edition format) (now (s .entry)) limit) (now (table .entry)) (now (work .entry)) st r (now (table .exit)) (now (work .exit)) ⌝ }
+    ensures { λ r. ⌜ TermStepped (now (s .entry)) (setting (edition format) (now (s .entry)) limit) (now (table .entry)) (now (work .entry)) st r (now (table .exit)) (now (work .exit)) ⌝ }
 {
     let at = st.at;
     let rows = st.rows;
@@ -87,7 +109,7 @@ fn term_step(
         Begun::Refused(r) => TermStep::Refused(r),
         Begun::Leaf(label, next) => {
             let none = [0u32; 6];
-            let row = rows::surface_row(label, none, 0);
+            let row = term_row(label, none, 0, format);
             push_term(table, rows, row, next, depth, limit)
         }
         Begun::Frame(label, next) => {
@@ -118,7 +140,7 @@ fn value_step(
     requires { ⌜ TermInside 512 (now s) (now work) st ⌝ }
     requires { ⌜ st .have ≡ true ⌝ }
     requires { ⌜ 0 < st .depth ⌝ }
-    ensures { λ r. ⌜ TermStepped (now (s .entry)) (surface (edition format) (now (s .entry)) limit) (now (table .entry)) (now (work .entry)) st r (now (table .exit)) (now (work .exit)) ⌝ }
+    ensures { λ r. ⌜ TermStepped (now (s .entry)) (setting (edition format) (now (s .entry)) limit) (now (table .entry)) (now (work .entry)) st r (now (table .exit)) (now (work .exit)) ⌝ }
 {
     let at = st.at;
     let rows = st.rows;
@@ -136,14 +158,14 @@ fn value_step(
             have: false,
         });
     }
-    let close = expects::expect_rparen(s, at);
+    let close = expects::expect_rparen(s, at, format);
     match close {
         Lexed::Refused(r) => TermStep::Refused(r),
         Lexed::Got(t) => {
             let f = frames::load_frame(work, d);
             let label = f.label;
             let args = f.args;
-            let row = rows::surface_row(label, args, f.len);
+            let row = term_row(label, args, f.len, format);
             push_term(table, rows, row, t.end, d, limit)
         }
     }
@@ -160,7 +182,7 @@ fn next_step(
 ) -> TermStep
     requires { ⌜ TermInside 512 (now s) (now work) st ⌝ }
     requires { ⌜ ended st ≡ false ⌝ }
-    ensures { λ r. ⌜ TermStepped (now (s .entry)) (surface (edition format) (now (s .entry)) limit) (now (table .entry)) (now (work .entry)) st r (now (table .exit)) (now (work .exit)) ⌝ }
+    ensures { λ r. ⌜ TermStepped (now (s .entry)) (setting (edition format) (now (s .entry)) limit) (now (table .entry)) (now (work .entry)) st r (now (table .exit)) (now (work .exit)) ⌝ }
 {
     let have = st.have;
     if have {

@@ -29,6 +29,7 @@ fn token_number(k: TokenKind) -> u8
         TokenKind::RParen => 2,
         TokenKind::Atom => 3,
         TokenKind::Eof => 4,
+        TokenKind::String => 5,
     }
 }
 

@@ -1,4 +1,4 @@
-mod Ahead
+pub mod Ahead
 mod Words
 mod Parts
 mod Declarations
@@ -6,4 +6,5 @@ mod Named
 mod Tagged
 mod Steps
 mod Loop
+pub mod Answers
 mod Modules

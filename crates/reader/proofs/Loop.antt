@@ -1,21 +1,21 @@
 -- The loop over declarations: the answer for those that are left is the answer for all.
-use mathlib.Core.Path.{_≡_, refl, sym, _∙_, subst}
+use mathlib.Core.Path.{_≡_, refl, _∙_, subst}
 use mathlib.Core.List.{List}
-use Prim.Native.Nat.{ℕ, _+_, _/_, _≤_, _<_}
+use Prim.Native.Nat.{ℕ, _+_, _≤_, _<_}
 use native.Mathlib.Omega.{arith}
 use lib.ListN.{length}
 use Rattle.token.specs.declared.Refusal.{Refusal}
 use Rattle.expects.specs.declared.Format.{Format}
 use Rattle.reader.specs.declared.Limits.{Limits}
 use Rattle.reader.specs.declared.ModuleStep.{ModuleStep}
-use Rattle.reader.specs.declared.ModuleRead.{ModuleRead}
+use Rattle.reader.specs.declared.DeclarationsRead.{DeclarationsRead}
 use Rattle.reader.specs.Parts.{ReadsFrom, left, ModuleStepped, HasRoom}
 use Rattle.reader.specs.Reads.{ModuleInside}
 
 module _ (format : Format) (limits : Limits) (s table₀ list₀ work₀ : List ℕ) (from : ℕ) where
   -- The answer for all declarations.
-  abbrev Answers : ModuleRead → List ℕ → List ℕ → Type 0
-  Answers r table list = ReadsFrom limits 0 0 (left format limits s from 0 0) table₀ list₀ r table list
+  abbrev Answers : DeclarationsRead → List ℕ → List ℕ → Type 0
+  Answers r table list = ReadsFrom format limits 0 0 (left format limits s from 0 0) table₀ list₀ r table list
 
   pub record Reading (table list work : List ℕ) (at n k : ℕ) : Type 0 where
     pub table-long : length table ≡ length table₀
@@ -23,7 +23,7 @@ module _ (format : Format) (limits : Limits) (s table₀ list₀ work₀ : List 
     pub work-long : length work ≡ length work₀
     pub few : k ≤ limits .declarations
     pub inside : ModuleInside (limits .rows) s work₀ from 0 → ModuleInside (limits .rows) s work at n
-    pub same : ModuleInside (limits .rows) s work₀ from 0 → (r : ModuleRead) (table₁ list₁ : List ℕ) → ReadsFrom limits n k (left format limits s at n k) table list r table₁ list₁ → Answers r table₁ list₁
+    pub same : ModuleInside (limits .rows) s work₀ from 0 → (r : DeclarationsRead) (table₁ list₁ : List ℕ) → ReadsFrom format limits n k (left format limits s at n k) table list r table₁ list₁ → Answers r table₁ list₁
 
   pub start : Reading table₀ list₀ work₀ from 0 0
   start = record { table-long = refl; list-long = refl; work-long = refl; few = omega arith; inside = λ i. i; same = λ i r table₁ list₁ h. h }
@@ -47,8 +47,8 @@ module _ (format : Format) (limits : Limits) (s table₀ list₀ work₀ : List 
       same = λ i r table₂ list₂ a. o .same i r table₂ list₂ (stepped (ModuleStep.Declared n₁ at₁) e i .same r table₂ list₂ a);
     }
 
-    pub ended : x ≡ ModuleStep.End → ModuleInside (limits .rows) s work₀ from 0 → Answers (ModuleRead.Done n k) table₁ list₁
-    ended e i = o .same i _ _ _ (stepped ModuleStep.End e i)
+    pub ended : (at₁ : ℕ) → x ≡ ModuleStep.End at₁ → ModuleInside (limits .rows) s work₀ from 0 → Answers (DeclarationsRead.Done n k at₁) table₁ list₁
+    ended at₁ e i = o .same i _ _ _ (stepped (ModuleStep.End at₁) e i)
 
-    pub stopped : (r : Refusal) → x ≡ ModuleStep.Refused r → ModuleInside (limits .rows) s work₀ from 0 → Answers (ModuleRead.Refused r) table₁ list₁
+    pub stopped : (r : Refusal) → x ≡ ModuleStep.Refused r → ModuleInside (limits .rows) s work₀ from 0 → Answers (DeclarationsRead.Refused r) table₁ list₁
     stopped r e i = o .same i _ _ _ (rw (stepped (ModuleStep.Refused r) e i) refl)

@@ -1,29 +1,60 @@
 -- A module: its head, then its declarations.
-use mathlib.Core.Path.{_≡_, refl, sym, _∙_, ap, subst}
-use mathlib.Core.List.{List}
-use Prim.Native.Nat.{ℕ, _+_, _-_, _/_, _≤_}
+use mathlib.Core.Path.{_≡_, refl, _∙_, ap, ap₂}
+use mathlib.Core.List.{List, [], _∷_}
+use mathlib.Core.Bool.{Bool}
+use Prim.Native.Nat.{ℕ, _≤_}
 use native.Mathlib.Omega.{arith}
 use lib.ListN.{length}
+use Rattle.token.specs.Token.{byte-class, layout-end, token-here, next-token}
+use Rattle.token.specs.declared.TokenKind.{TokenKind}
 use Rattle.token.specs.declared.Token.{Token}
 use Rattle.token.specs.declared.Refusal.{Refusal}
+use Rattle.token.specs.declared.Lexed.{Lexed}
+use Rattle.token.specs.declared.Lexed.the-variants.{Got, Refused}
+use Rattle.core_token.specs.CoreToken.{core-class, core-atom-from, core-token-from, next-core-token}
+use Rattle.core_text.specs.TextReading.{text-edition}
+use Rattle.terms.specs.Forms.{edition-0-1, holds-span, holds-span-in}
 use Rattle.terms.specs.Label.{Declaration}
-use Rattle.surface.specs.Reader.{start, Result, done, refused}
-use Rattle.surface.specs.Reading.{read-module}
+use Rattle.terms.specs.Rows.{row-holding, rows-by, joined}
+use Rattle.surface.specs.Reader.{start, Result, done, refused, Reader}
+use Rattle.surface.specs.Text.{is-end}
+use Rattle.surface.specs.Reading.{name, declarations, read-module}
+use Rattle.surface.proofs.SoundModule.{head-done}
+use Rattle.tables.specs.Tables.{with-words}
 use Rattle.expects.specs.declared.HeadRead.{HeadRead}
-use Rattle.expects.specs.Expects.{position-at, Heads}
-use Rattle.expects.proofs.Heads.{head-got as ahead}
+use Rattle.expects.specs.Expects.{position-at, head-read, Heads}
+use Rattle.expects.proofs.Heads.{head-got}
 use Rattle.expects.specs.declared.Format.{Format}
+use Rattle.expects.specs.Formats.{edition, declared-name, ends}
 use Rattle.reader.specs.declared.Limits.{Limits}
+use Rattle.reader.specs.declared.DeclarationsRead.{DeclarationsRead}
 use Rattle.reader.specs.declared.ModuleRead.{ModuleRead}
-use Rattle.reader.specs.ModuleWords.{all-declarations}
-use Rattle.reader.specs.Parts.{ReadsFrom, left}
+use Rattle.reader.specs.ModuleWords.{whole-term}
+use Rattle.reader.specs.Parts.{ReadsDeclarations}
 use Rattle.reader.specs.Reads.{Holds, ModuleInside, ReadsWithin, ReadsModule}
+use Rattle.reader.proofs.Answers.{inside-first, all-from, all-refused, all-read}
 
--- Declarations behind no row and no declaration are all.
-from-start : (limits : Limits) (x : Result (List Declaration)) (table list : List ℕ) (r : ModuleRead) (table₁ list₁ : List ℕ) → ReadsFrom limits 0 0 x table list r table₁ list₁
-    → ReadsWithin limits x table list r table₁ list₁
-from-start limits (refused x) table list r table₁ list₁ h = h
-from-start limits (done ds q) table list r table₁ list₁ h = (h .0 ∙ ap (ModuleRead.Done (q .rows)) (let z : 0 + length ds ≡ length ds = omega arith in z), h .1, h .2)
+-- A format whose tokens are those of a source has its names, its end and its rows.
+record OfSource (f : Format) : Type 0 where
+  names : (s : List ℕ) → name (edition f) s ≡ declared-name f s
+  ending : is-end ≡ ends f
+  spans : holds-span-in (edition f .forms) ≡ holds-span
+
+abbrev start-of : Lexed → ℕ
+start-of (Got t) = t .start
+start-of (Refused r) = 0
+
+-- A comment is layout in a source and an atom in a core text.
+other-tokens : next-core-token ≡ next-token → ⊥
+unfolding next-core-token core-token-from core-atom-from core-class next-token layout-end token-here byte-class
+other-tokens e =
+    let z : _≡_ {A = ℕ} 0 1 = ap (λ (T : List ℕ → ℕ → Lexed). start-of (T (59 ∷ []) 0)) e in
+    omega arith
+
+of-source : (f : Format) → edition f .tokens ≡ next-token → OfSource f
+unfolding edition-0-1 text-edition
+of-source Format.Surface01 e = record { names = λ s. refl; ending = refl; spans = refl }
+of-source Format.Core01 e = absurd (other-tokens e)
 
 module _ (limits : Limits) (s table list : List ℕ) (x : HeadRead) (h : Heads s x) where
   abbrev answer : Result (List Declaration)
@@ -34,19 +65,34 @@ module _ (limits : Limits) (s table list : List ℕ) (x : HeadRead) (h : Heads s
   head-refused r e table₁ list₁ = rw (h 0, e) refl
 
   module _ (format : Format) (t : Token) (next : ℕ) (e : x ≡ HeadRead.Name format t next) where
-    head-read : answer ≡ left format limits s next 0 0
-    unfolding read-module
-    head-read =
-        let z : limits .declarations ≡ limits .declarations - 0 = omega arith in
-        rw (h 0, e) (ap (λ (i : ℕ). all-declarations format s (limits .rows) i (position-at next 0)) z)
+    source : OfSource format
+    source = of-source format (head-done s start _ _ (h 0 ∙ ap (head-read 0) e) .tokens)
 
-    pub head-got : (work : List ℕ) → length s ≤ 4294967295 → 5632 ≤ length work → (r : ModuleRead) (table₁ list₁ : List ℕ)
-        → (ModuleInside (limits .rows) s work next 0 → ReadsFrom limits 0 0 (left format limits s next 0 0) table list r table₁ list₁) → ReadsWithin limits answer table list r table₁ list₁
-    head-got work a b r table₁ list₁ g =
-        let w = ahead s x h format t next e 0 .ahead .high in
-        from-start limits answer table list r table₁ list₁
-        (subst (λ (y : Result (List Declaration)). ReadsFrom limits 0 0 y table list r table₁ list₁) (sym head-read)
-        (g (record { source = a; area = b; within = w; few = omega arith; stored = omega arith })))
+    -- What stands behind the head.
+    behind-head : answer ≡ all-from format limits s next
+    unfolding read-module
+    behind-head =
+        rw (h 0, e)
+        (ap₂ (λ (n : Reader Token) (b : TokenKind → Bool). declarations (edition format) s (whole-term format s (limits .rows)) n b (limits .declarations) (position-at next 0))
+        (source .names s) (source .ending))
+
+    -- The answer r for the declarations.
+    module _ (work : List ℕ) (short : length s ≤ 4294967295) (wide : 5632 ≤ length work) (r : DeclarationsRead) (table₁ list₁ : List ℕ)
+        (g : ReadsDeclarations format limits s table list work next r table₁ list₁) where
+      first : ModuleInside (limits .rows) s work next 0
+      first = inside-first (limits .rows) s work next short wide (head-got s x h format t next e 0 .ahead .high)
+
+      pub module-refused : (c : Refusal) → r ≡ DeclarationsRead.Refused c → ReadsWithin limits answer table list (ModuleRead.Refused c) table₁ list₁
+      module-refused c i = rw (behind-head ∙ all-refused format limits s table list work next first r table₁ list₁ g c i) refl
+
+      pub module-done : (n k at : ℕ) → r ≡ DeclarationsRead.Done n k at → ReadsWithin limits answer table list (ModuleRead.Done n k) table₁ list₁
+      module-done n k at i =
+          let a = all-read format limits s table list work next first r table₁ list₁ g n k at i in
+          rw (behind-head ∙ a .read) (
+            ap (ModuleRead.Done n) (a .count),
+            λ holds. a .rows holds ∙ ap (λ (b : ℕ → Bool). with-words table 0 (joined (rows-by (row-holding b) 0 (a .declarations)))) (source .spans),
+            a .records,
+          )
 
 -- Tables that hold as much as there is room for.
 pub whole : (limits : Limits) (x : Result (List Declaration)) (table list : List ℕ) (r : ModuleRead) (table₁ list₁ : List ℕ)

@@ -1,16 +1,15 @@
 -- A declaration behind its word, from what its reader's calls give.
-use mathlib.Core.Path.{_≡_, refl, sym, _∙_, ap, subst}
+use mathlib.Core.Path.{_≡_, refl, _∙_, ap, subst}
 use mathlib.Core.List.{List, [], _∷_}
-use Prim.Native.Nat.{ℕ, suc, _-_, _/_, _≤_, _<_}
+use Prim.Native.Nat.{ℕ, suc, _-_, _≤_, _<_}
 use native.Mathlib.Omega.{arith}
 use lib.ListN.{length}
 use Rattle.token.specs.declared.Token.{Token}
 use Rattle.token.specs.declared.Refusal.{Refusal}
-use Rattle.token.specs.declared.Lexed.{Lexed}
-use Rattle.token.specs.declared.Lexed.the-variants.{Got}
-use Rattle.surface.specs.Reading.{closing, name}
-use Rattle.expects.specs.Expects.{position-at, Reads}
-use Rattle.expects.proofs.Ahead.{TokenAhead, name-ahead, read-ahead}
+use Rattle.surface.specs.Reading.{closing}
+use Rattle.expects.specs.declared.NameRead.{NameRead}
+use Rattle.expects.specs.Expects.{position-at, Names}
+use Rattle.expects.proofs.Ahead.{NameAhead, names-got}
 use Rattle.parser.specs.Machine.{ReadsTerm}
 use Rattle.parser.specs.declared.TermRead.{TermRead}
 use Rattle.expects.specs.declared.Format.{Format}
@@ -24,33 +23,33 @@ use Rattle.reader.proofs.Ahead.{term-onward}
 use Rattle.reader.proofs.Parts.{present, term-inside, term-read, TypeRead, type-done, type-refused, body-done, body-refused}
 use Rattle.reader.proofs.Declarations as by
 
-pub name-order : (format : Format) (s : List ℕ) (at : ℕ) (x : Lexed) → Reads s (name (edition format) s) at x → (m : Token) → x ≡ Got m → m .start ≤ m .end
-name-order format s at x h m e = let a = read-ahead s (name (edition format) s) (λ p. name-ahead s p (edition format)) at x h m e 0 in omega arith
+pub name-order : (format : Format) (s : List ℕ) (at : ℕ) (x : NameRead) → Names format s at x → (m : Token) (at₀ : ℕ) → x ≡ NameRead.Got m at₀ → m .start ≤ m .end
+name-order format s at x h m at₀ e = names-got format s at x h m at₀ e 0 .order
 
 module _ (format : Format) (limits : Limits) (s table list work : List ℕ) (at n k : ℕ) (t : Token) (j kind : ℕ) (inside : ModuleInside (limits .rows) s work at n) (room : k < limits .declarations) (is : kind ≡ suc j)
-    (x : Lexed) (h : Reads s (name (edition format) s) at x) (m : Token) (e : x ≡ Got m) where
-  named : TokenAhead s (position-at at n) m (position-at (m .end) n)
-  named = read-ahead s (name (edition format) s) (λ p. name-ahead s p (edition format)) at x h m e n
+    (x : NameRead) (h : Names format s at x) (m : Token) (at₀ : ℕ) (e : x ≡ NameRead.Got m at₀) where
+  named : NameAhead s (position-at at n) m (position-at at₀ n)
+  named = names-got format s at x h m at₀ e n
 
-  type-at : ModuleInside (limits .rows) s work (m .end) n
-  type-at = record { source = inside .source; area = inside .area; within = named .high; few = omega (arith, named, inside .few); stored = inside .stored }
+  type-at : ModuleInside (limits .rows) s work at₀ n
+  type-at = record { source = inside .source; area = inside .area; within = named .ahead .high; few = omega (arith, named .ahead .past, inside .few); stored = inside .stored }
 
   -- The type.
   module _ (y : TermRead) (table₁ work₁ : List ℕ) (u : length table₁ ≡ length table) (v : length work₁ ≡ length work)
-      (g : ReadsTerm (edition format) (limits .rows) s table work (m .end) n y table₁) where
-    typed : BodyReads (limits .rows) (present (whole-term format s (limits .rows) (position-at (m .end) n))) n table y table₁
-    typed = term-read format (limits .rows) s table (m .end) n (inside .stored) y table₁ (g (term-inside (limits .rows) s work (m .end) n type-at))
+      (g : ReadsTerm (edition format) (limits .rows) s table work at₀ n y table₁) where
+    typed : BodyReads format (limits .rows) (present (whole-term format s (limits .rows) (position-at at₀ n))) n table y table₁
+    typed = term-read format (limits .rows) s table at₀ n (inside .stored) y table₁ (g (term-inside (limits .rows) s work at₀ n type-at))
 
-    pub type-stops : (r : Refusal) → y ≡ TermRead.Refused r → (list₁ : List ℕ) → Declares limits (by.answer format s (limits .rows) t j at n) n k table list (DeclarationRead.Refused r) table₁ list₁
-    type-stops r i list₁ = by.stops limits _ r n k table list table₁ list₁ (by.type-refused format s _ t j at n x h m e r (type-refused (limits .rows) n table y table₁ r i _ typed))
+    pub type-stops : (r : Refusal) → y ≡ TermRead.Refused r → (list₁ : List ℕ) → Declares format limits (by.answer format s (limits .rows) t j at n) n k table list (DeclarationRead.Refused r) table₁ list₁
+    type-stops r i list₁ = by.stops format limits _ r n k table list table₁ list₁ (by.type-refused format s _ t j at n x h m at₀ e r (type-refused format (limits .rows) n table y table₁ r i _ typed))
 
     module _ (row n₁ at₁ : ℕ) (i : y ≡ TermRead.Done row n₁ at₁) where
-      type : TypeRead (limits .rows) (whole-term format s (limits .rows) (position-at (m .end) n)) n table row n₁ at₁ table₁
-      type = type-done (limits .rows) n table y table₁ row n₁ at₁ i _ typed
+      type : TypeRead format (limits .rows) (whole-term format s (limits .rows) (position-at at₀ n)) n table row n₁ at₁ table₁
+      type = type-done format (limits .rows) n table y table₁ row n₁ at₁ i _ typed
 
       body-at : ModuleInside (limits .rows) s work₁ at₁ n₁
       body-at =
-          let o = term-onward format s (limits .rows) (position-at (m .end) n) (position-at at₁ n₁) (type .type) (type .read) in
+          let o = term-onward format s (limits .rows) (position-at at₀ n) (position-at at₁ n₁) (type .type) (type .read) in
           record {
             source = inside .source;
             area = omega (arith, inside .area);
@@ -62,23 +61,23 @@ module _ (format : Format) (limits : Limits) (s table list work : List ℕ) (at 
       -- The body.
       module _ (z : TermRead) (table₂ : List ℕ)
           (f : ReadsBody format limits s table₁ work₁ kind at₁ n₁ z table₂) where
-        bodied : BodyReads (limits .rows) (one-body format s (limits .rows) j (position-at at₁ n₁)) n₁ table₁ z table₂
+        bodied : BodyReads format (limits .rows) (one-body format s (limits .rows) j (position-at at₁ n₁)) n₁ table₁ z table₂
         bodied = f body-at j is
 
         pub body-stops : (r : Refusal) → z ≡ TermRead.Refused r → (list₁ : List ℕ)
-            → Declares limits (by.answer format s (limits .rows) t j at n) n k table list (DeclarationRead.Refused r) table₂ list₁
+            → Declares format limits (by.answer format s (limits .rows) t j at n) n k table list (DeclarationRead.Refused r) table₂ list₁
         body-stops r q list₁ =
-            by.stops limits _ r n k table list table₂ list₁
-            (by.body-refused format s _ t j at n x h m e (type .type) at₁ n₁ (type .read) r (body-refused (limits .rows) n₁ table₁ z table₂ r q _ bodied))
+            by.stops format limits _ r n k table list table₂ list₁
+            (by.body-refused format s _ t j at n x h m at₀ e (type .type) at₁ n₁ (type .read) r (body-refused format (limits .rows) n₁ table₁ z table₂ r q _ bodied))
 
         -- The end.
         pub ends : (body n₂ at₂ : ℕ) → z ≡ TermRead.Done body n₂ at₂ → (words : List ℕ)
             → (m .end < 4294967296 → words ≡ kind ∷ m .start ∷ (m .end - m .start) ∷ row ∷ body ∷ [])
-            → (r : DeclarationRead) (list₁ : List ℕ) → Finishes (closing s (position-at at₂ n₂)) k list words r list₁
-            → Declares limits (by.answer format s (limits .rows) t j at n) n k table list r table₂ list₁
+            → (r : DeclarationRead) (list₁ : List ℕ) → Finishes (closing (edition format .tokens s) (position-at at₂ n₂)) k list words r list₁
+            → Declares format limits (by.answer format s (limits .rows) t j at n) n k table list r table₂ list₁
         ends body n₂ at₂ q words w r list₁ c =
             let d : words ≡ suc j ∷ m .start ∷ (m .end - m .start) ∷ row ∷ body ∷ [] =
-            w (omega (arith, named .high, inside .source)) ∙ ap (λ (i : ℕ). i ∷ m .start ∷ (m .end - m .start) ∷ row ∷ body ∷ []) is in
-            by.ended format limits s table list at n k t j x h m e row n₁ at₁ table₁ u type body n₂ at₂ table₂ (body-done (limits .rows) n₁ table₁ z table₂ body n₂ at₂ q _ bodied)
-            (inside .stored) room (closing s (position-at at₂ n₂)) refl r list₁
-            (subst (λ (l : List ℕ). Finishes (closing s (position-at at₂ n₂)) k list l r list₁) d c)
+            w (omega (arith, named .inside, named .ahead .high, inside .source)) ∙ ap (λ (i : ℕ). i ∷ m .start ∷ (m .end - m .start) ∷ row ∷ body ∷ []) is in
+            by.ended format limits s table list at n k t j x h m at₀ e row n₁ at₁ table₁ u type body n₂ at₂ table₂ (body-done format (limits .rows) n₁ table₁ z table₂ body n₂ at₂ q _ bodied)
+            (inside .stored) room (closing (edition format .tokens s) (position-at at₂ n₂)) refl r list₁
+            (subst (λ (l : List ℕ). Finishes (closing (edition format .tokens s) (position-at at₂ n₂)) k list l r list₁) d c)

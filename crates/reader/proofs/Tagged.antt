@@ -12,21 +12,22 @@ use Rattle.surface.specs.Reading.{atom, declared, declaration, declaration-kind
 use Rattle.surface.specs.Text.{text}
 use Rattle.terms.specs.Label.{Declaration}
 use Rattle.expects.specs.Expects.{position-at, Reads}
-use Rattle.expects.proofs.Ahead.{atom-ahead, read-ahead}
+use Rattle.expects.proofs.Ahead.{source, atom-ahead, read-ahead}
 use Rattle.expects.specs.declared.Format.{Format}
+use Rattle.expects.specs.Formats.{edition}
 use Rattle.reader.specs.declared.Limits.{Limits}
 use Rattle.reader.specs.declared.DeclarationRead.{DeclarationRead}
 use Rattle.reader.specs.ModuleWords.{named-declaration, one-declaration}
 use Rattle.reader.specs.Reads.{ModuleInside, Declares}
 
 -- Reading may go on behind the word.
-pub behind-word : (limit : ℕ) (s work : List ℕ) (at n : ℕ) (x : Lexed) → Reads s (atom s) at x → (t : Token) → x ≡ Got t → ModuleInside limit s work at n
+pub behind-word : (format : Format) (limit : ℕ) (s work : List ℕ) (at n : ℕ) (x : Lexed) → Reads (atom (edition format .tokens s)) at x → (t : Token) → x ≡ Got t → ModuleInside limit s work at n
     → ModuleInside limit s work (t .end) n
-behind-word limit s work at n x h t e i =
-    let a = read-ahead s (atom s) (atom-ahead s) at x h t e n in
+behind-word format limit s work at n x h t e i =
+    let a = read-ahead s (atom (edition format .tokens s)) (atom-ahead (source format s)) at x h t e n in
     record { source = i .source; area = i .area; within = a .high; few = omega arith; stored = i .stored }
 
-module _ (format : Format) (s : List ℕ) (limit at n : ℕ) (x : Lexed) (h : Reads s (atom s) at x) where
+module _ (format : Format) (s : List ℕ) (limit at n : ℕ) (x : Lexed) (h : Reads (atom (edition format .tokens s)) at x) where
   pub word-refused : (r : Refusal) → x ≡ Refused r → one-declaration format s limit (position-at at n) ≡ refused r
   unfolding declaration
   word-refused r e = rw (h n, e)
@@ -42,9 +43,9 @@ module _ (format : Format) (s : List ℕ) (limit at n : ℕ) (x : Lexed) (h : Re
 
     -- What stands behind a declaration's word.
     pub word-got : (kind ≡ 0 → ⊥) → (limits : Limits) (k : ℕ) (table list : List ℕ) (r : DeclarationRead) (table₁ list₁ : List ℕ)
-        → ((u : Token) (j : ℕ) → kind ≡ suc j → Declares limits (named-declaration format s limit u (suc j) (position-at (t .end) n)) n k table list r table₁ list₁)
-        → Declares limits (one-declaration format s limit (position-at at n)) n k table list r table₁ list₁
+        → ((u : Token) (j : ℕ) → kind ≡ suc j → Declares format limits (named-declaration format s limit u (suc j) (position-at (t .end) n)) n k table list r table₁ list₁)
+        → Declares format limits (one-declaration format s limit (position-at at n)) n k table list r table₁ list₁
     word-got z limits k table list r table₁ list₁ d =
         let j : kind ≡ suc (kind - 1) = omega (arith, z) in
-        subst (λ (y : Result Declaration). Declares limits y n k table list r table₁ list₁)
+        subst (λ (y : Result Declaration). Declares format limits y n k table list r table₁ list₁)
         (ap (λ (i : ℕ). named-declaration format s limit t i (position-at (t .end) n)) (sym j) ∙ sym by-kind) (d t (kind - 1) j)

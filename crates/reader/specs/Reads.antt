@@ -7,6 +7,7 @@ use Rattle.terms.specs.Label.{Declaration}
 use Rattle.terms.specs.Rows.{surface-rows, joined, read-record, read-records}
 use Rattle.surface.specs.Reader.{Result, done, refused}
 use Rattle.tables.specs.Tables.{with-words}
+use Rattle.expects.specs.declared.Format.{Format}
 use Rattle.reader.specs.ModuleWords.{row-words}
 use Rattle.reader.specs.declared.Limits.{Limits}
 use Rattle.reader.specs.declared.DeclarationRead.{DeclarationRead}
@@ -26,11 +27,11 @@ pub record ModuleInside (limit : ℕ) (s work : List ℕ) (at n : ℕ) : Type 0 
 
 -- The answer for a declaration behind n rows and k declarations: its rows stand behind the rows, its record behind the records, in tables
 -- that hold as much as there is room for.
-abbrev pub Declares : Limits → Result Declaration → ℕ → ℕ → List ℕ → List ℕ → DeclarationRead → List ℕ → List ℕ → Type 0
-Declares limits (done d q) n k table list r table₁ list₁ =
-    (r ≡ DeclarationRead.Done (q .rows) (q .offset)) × (Holds 8 (limits .rows) table → table₁ ≡ with-words table (n * 8) (row-words n d))
+abbrev pub Declares : Format → Limits → Result Declaration → ℕ → ℕ → List ℕ → List ℕ → DeclarationRead → List ℕ → List ℕ → Type 0
+Declares f limits (done d q) n k table list r table₁ list₁ =
+    (r ≡ DeclarationRead.Done (q .rows) (q .offset)) × (Holds 8 (limits .rows) table → table₁ ≡ with-words table (n * 8) (row-words f n d))
     × (Holds 5 (limits .declarations) list → list₁ ≡ with-words list (k * 5) (read-record n d))
-Declares limits (refused x) n k table list r table₁ list₁ = r ≡ DeclarationRead.Refused x
+Declares f limits (refused x) n k table list r table₁ list₁ = r ≡ DeclarationRead.Refused x
 
 -- The answer for a whole module, in tables that hold as much as there is room for: the words of its rows and records stand at the beginning
 -- of the tables, and what lay behind them is untouched. Of the tables after a refusal nothing is said: the caller clears them.

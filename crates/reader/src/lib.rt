@@ -1,16 +1,18 @@
 // The reader of modules: the head, then declarations to the end, into lent tables of rows and records.
-// The port of `parse_module` and `parse_declaration_after_lparen` in surface/parser.rs.
+// The port of `parse_module` and `parse_declaration_after_lparen` in surface/parser.rs. The declarations of every format have one reader.
 ghost use mathlib.Core.Path.{_≡_};
 ghost use mathlib.Core.List.{[], _∷_};
 ghost use Prim.Native.Nat.{_-_, _/_, _≤_, _<_};
 ghost use lib.ListN.{length};
 ghost use Rattle.surface.specs.Reader.{start};
 ghost use Rattle.surface.specs.Reading.{closing, read-module};
+ghost use Rattle.expects.specs.Formats.{edition};
 ghost use Rattle.expects.specs.Expects.{position-at};
 ghost use Rattle.reader.specs.Parts.{ReadsBody, Finishes, ReadsNamed, ReadsDeclaration, Steps, HasRoom, ReadsDeclarations};
 ghost use Rattle.reader.specs.Reads.{ReadsWithin, ReadsModule};
 use expects::Format;
 use expects::HeadRead;
+use expects::NameRead;
 use parser::TermRead;
 use token::Lexed;
 use token::Refusal;
@@ -29,10 +31,20 @@ pub enum DeclarationRead {
     Refused(Refusal),
 }
 
-// What stands next in a module: a declaration, with the same numbers; the end; or the refusal.
+// What stands next in a module: a declaration, with the same numbers; the end, and where reading goes on behind it; or the refusal.
 enum ModuleStep {
     Declared { rows: usize, next: usize },
-    End,
+    End { next: usize },
+    Refused(Refusal),
+}
+
+// Declarations that were read: how many rows and declarations are stored, and where reading goes on; or the refusal.
+pub enum DeclarationsRead {
+    Done {
+        rows: usize,
+        declarations: usize,
+        next: usize,
+    },
     Refused(Refusal),
 }
 
@@ -83,10 +95,11 @@ fn finish_declaration(
     rows: usize,
     k: usize,
     record: [u32; 5],
+    format: Format,
 ) -> DeclarationRead
-    ensures { λ r. ⌜ Finishes (closing (now (s .entry)) (position-at at rows)) k (now (list .entry)) «record» r (now (list .exit)) ⌝ }
+    ensures { λ r. ⌜ Finishes (closing (edition format .tokens (now (s .entry))) (position-at at rows)) k (now (list .entry)) «record» r (now (list .exit)) ⌝ }
 {
-    let l = expects::expect_rparen(s, at);
+    let l = expects::expect_rparen(s, at, format);
     match l {
         Lexed::Refused(r) => DeclarationRead::Refused(r),
         Lexed::Got(close) => {
@@ -114,11 +127,11 @@ fn read_named(
 ) -> DeclarationRead
     ensures { λ r. ⌜ ReadsNamed format limits (now (s .entry)) (now (table .entry)) (now (list .entry)) (now (work .entry)) kind at rows k r (now (table .exit)) (now (list .exit)) ⌝ }
 {
-    let l = expects::parse_identifier(s, at, format);
-    match l {
-        Lexed::Refused(r) => DeclarationRead::Refused(r),
-        Lexed::Got(name) => {
-            let ty = parser::read_term(s, table, work, name.end, rows, limits.rows, format);
+    let x = expects::parse_name(s, at, format);
+    match x {
+        NameRead::Refused(r) => DeclarationRead::Refused(r),
+        NameRead::Got(name, behind) => {
+            let ty = parser::read_term(s, table, work, behind, rows, limits.rows, format);
             match ty {
                 TermRead::Refused(r) => DeclarationRead::Refused(r),
                 TermRead::Done { row, rows, next } => {
@@ -127,7 +140,7 @@ fn read_named(
                         TermRead::Refused(r) => DeclarationRead::Refused(r),
                         TermRead::Done { row: b, rows, next } => {
                             let record = declaration_record(kind, name, row, b);
-                            finish_declaration(s, list, next, rows, k, record)
+                            finish_declaration(s, list, next, rows, k, record, format)
                         }
                     }
                 }
@@ -150,7 +163,7 @@ fn read_declaration(
 ) -> DeclarationRead
     ensures { λ r. ⌜ ReadsDeclaration format limits (now (s .entry)) (now (table .entry)) (now (list .entry)) (now (work .entry)) at rows k r (now (table .exit)) (now (list .exit)) ⌝ }
 {
-    let l = expects::next_atom(s, at);
+    let l = expects::next_atom(s, at, format);
     match l {
         Lexed::Refused(r) => DeclarationRead::Refused(r),
         Lexed::Got(tag) => {
@@ -180,13 +193,12 @@ fn next_declaration(
     ensures { λ r. ⌜ Steps format limits (now (s .entry)) (now (table .entry)) (now (list .entry)) (now (work .entry)) at rows k r (now (table .exit)) (now (list .exit)) (now (work .exit)) ⌝ }
     ensures { λ r. ⌜ HasRoom limits k r ⌝ }
 {
-    let l = expects::next_token(s, at);
+    let l = expects::next_token(s, at, format);
     match l {
         Lexed::Refused(r) => ModuleStep::Refused(r),
         Lexed::Got(t) => {
             let kind = t.kind;
             match kind {
-                TokenKind::Eof => ModuleStep::End,
                 TokenKind::LParen => {
                     if limits.declarations <= k {
                         // "9 declaration list full", nowhere
@@ -201,14 +213,19 @@ fn next_declaration(
                         },
                     }
                 }
-                _ => ModuleStep::Refused(expects::refused_at(1, t.start)),
+                _ => {
+                    if expects::is_ending(kind, format) {
+                        return ModuleStep::End { next: t.end };
+                    }
+                    ModuleStep::Refused(expects::refused_at(1, t.start))
+                }
             }
         }
     }
 }
 
-// Declarations from an offset to the end, into empty tables.
-fn read_declarations(
+// Declarations of a format from an offset to their end, into empty tables.
+pub fn read_declarations(
     s: &[u8],
     table: &mut [u32],
     list: &mut [u32],
@@ -216,7 +233,7 @@ fn read_declarations(
     from: usize,
     limits: Limits,
     format: Format,
-) -> ModuleRead
+) -> DeclarationsRead
     ensures { λ r. ⌜ ReadsDeclarations format limits (now (s .entry)) (now (table .entry)) (now (list .entry)) (now (work .entry)) from r (now (table .exit)) (now (list .exit)) ⌝ }
 {
     let mut at = from;
@@ -226,12 +243,13 @@ fn read_declarations(
         let step = next_declaration(s, table, list, work, at, rows, k, limits, format);
         match step {
             ModuleStep::Refused(r) => {
-                return ModuleRead::Refused(r);
+                return DeclarationsRead::Refused(r);
             }
-            ModuleStep::End => {
-                return ModuleRead::Done {
+            ModuleStep::End { next } => {
+                return DeclarationsRead::Done {
                     rows: rows,
                     declarations: k,
+                    next: next,
                 };
             }
             ModuleStep::Declared { rows: n, next } => {
@@ -257,7 +275,18 @@ pub fn read_within(
     match h {
         HeadRead::Refused(r) => ModuleRead::Refused(r),
         HeadRead::Name(format, _, next) => {
-            read_declarations(s, table, list, work, next, limits, format)
+            let d = read_declarations(s, table, list, work, next, limits, format);
+            match d {
+                DeclarationsRead::Refused(r) => ModuleRead::Refused(r),
+                DeclarationsRead::Done {
+                    rows,
+                    declarations,
+                    next: _,
+                } => ModuleRead::Done {
+                    rows: rows,
+                    declarations: declarations,
+                },
+            }
         }
     }
 }

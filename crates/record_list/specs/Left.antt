@@ -18,7 +18,7 @@ used = record { kind = 9; «name_start» = 9; «name_length» = 9; «type_row» 
 unfoldable pub useds : List Declaration
 useds = replicate 256 used
 
-pub record Left (s : List ℕ) (question : Question) (surface core work words : List ℕ) (r : Reply) (surface₁ core₁ work₁ words₁ : List ℕ) : Type 0 where
+pub record Left (s : List ℕ) (question : Question) (surface core work words text : List ℕ) (r : Reply) (surface₁ core₁ work₁ words₁ text₁ : List ℕ) : Type 0 where
   pub list : List Declaration
-  pub replies : Replies s question (tables surface core (list-words useds) work) r (tables surface₁ core₁ (list-words list) work₁)
+  pub replies : Replies s question (tables surface core (list-words useds) work) text r (tables surface₁ core₁ (list-words list) work₁) text₁
   pub words-out : words₁ ≡ words-of list 0 words

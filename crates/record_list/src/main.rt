@@ -1,6 +1,8 @@
-// Asks of two sources with the declaration list lent as a slice of records, and prints the answer and the first three records of the list:
-// 01's input of the listing, which is loaded, read and asked about a dependence, and a source that is refused.
+// Asks of two sources and two core texts with the declaration list lent as a slice of records, and prints the answer and the first three
+// records of the list: 01's input of the listing, which is loaded, read and asked about a dependence, whose core text is printed and read
+// again; a source that is refused; and a core text that is not what would be printed for it.
 use libc::STDOUT_FILENO;
+use printing::Printed;
 use reader::ModuleRead;
 use record_loader::Question;
 use record_loader::Reply;
@@ -34,11 +36,12 @@ fn ask_list(
     core: &mut [u32],
     work: &mut [u32],
     words: &mut [u32],
+    text: &mut [u8],
 ) -> Reply
-    ensures { λ r. ⌜ Left (now (s .entry)) question (now (surface .entry)) (now (core .entry)) (now (work .entry)) (now (words .entry)) r (now (surface .exit)) (now (core .exit)) (now (work .exit)) (now (words .exit)) ⌝ }
+    ensures { λ r. ⌜ Left (now (s .entry)) question (now (surface .entry)) (now (core .entry)) (now (work .entry)) (now (words .entry)) (now (text .entry)) r (now (surface .exit)) (now (core .exit)) (now (work .exit)) (now (words .exit)) (now (text .exit)) ⌝ }
 {
     let mut list = [used_record(); 256];
-    let reply = record_loader::ask_records(question, s, surface, core, &mut list, work);
+    let reply = record_loader::ask_records(question, s, surface, core, &mut list, work, text);
     records::write_words(&list, words);
     reply
 }
@@ -96,11 +99,33 @@ fn print_dependence(answer: Dependence) {
     }
 }
 
+fn print_printed(answer: Printed) {
+    match answer {
+        Printed::Text { length } => {
+            io::write_all(STDOUT_FILENO, b"printed");
+            print_number(length as u64);
+        }
+        Printed::Refused(refusal) => print_refusal(refusal),
+    }
+}
+
+fn print_text_read(answer: Answer) {
+    match answer {
+        Answer::Loaded { rows, declarations } => {
+            io::write_all(STDOUT_FILENO, b"text read");
+            print_counts(rows, declarations);
+        }
+        Answer::Refused(refusal) => print_refusal(refusal),
+    }
+}
+
 fn print_reply(reply: Reply) {
     match reply {
         Reply::Loaded(answer) => print_loaded(answer),
         Reply::Parsed(answer) => print_read(answer),
         Reply::Depends(answer) => print_dependence(answer),
+        Reply::Printed(answer) => print_printed(answer),
+        Reply::Read(answer) => print_text_read(answer),
     }
     io::write_all(STDOUT_FILENO, b"\n");
 }
@@ -116,26 +141,74 @@ fn print_record(words: &[u32], k: usize) {
     io::write_all(STDOUT_FILENO, b"\n");
 }
 
-fn print_asked(question: Question, s: &[u8]) {
+// How many bytes were printed.
+fn printed_length(reply: Reply) -> usize {
+    if let Reply::Printed(answer) = reply {
+        if let Printed::Text { length } = answer {
+            return length;
+        }
+    }
+    0
+}
+
+// The beginning of a buffer.
+fn front(text: &[u8], n: usize) -> &[u8] {
+    if n < text.len() {
+        return &text[..n];
+    }
+    text
+}
+
+fn print_asked(question: Question, s: &[u8], text: &mut [u8]) -> Reply {
     let mut surface = [0u32; 8192];
     let mut core = [0u32; 8192];
     let mut work = [0u32; 16384];
     let mut words = [0u32; 1280];
-    let reply = ask_list(question, s, &mut surface, &mut core, &mut work, &mut words);
+    let reply = ask_list(
+        question,
+        s,
+        &mut surface,
+        &mut core,
+        &mut work,
+        &mut words,
+        text,
+    );
     print_reply(reply);
     print_record(&words, 0);
     print_record(&words, 1);
     print_record(&words, 2);
+    reply
+}
+
+fn print_source(s: &[u8], text: &mut [u8]) {
+    print_asked(Question::Load, s, text);
+    print_asked(Question::Parse, s, text);
+    print_asked(Question::Depends(1, 0), s, text);
+    print_asked(Question::Depends(0, 1), s, text);
+}
+
+fn print_core(t: &[u8], text: &mut [u8]) {
+    print_asked(Question::ReadCore, t, text);
+    print_asked(Question::ReadCanonical, t, text);
 }
 
 fn main() {
+    let mut buffer = [0u8; 256];
+    let mut short = [0u8; 16];
     let listed = b"(surface 0 1)(module m)(postulate x nat)(postulate y (pi x (ref x) (ref x)))";
-    print_asked(Question::Load, listed);
-    print_asked(Question::Parse, listed);
-    print_asked(Question::Depends(1, 0), listed);
-    print_asked(Question::Depends(0, 1), listed);
+    print_source(listed, &mut short);
+    print_asked(Question::Print, listed, &mut short);
+    let reply = print_asked(Question::Print, listed, &mut buffer);
+    let length = printed_length(reply);
+    let printed = front(&buffer, length);
+    io::write_all(STDOUT_FILENO, printed);
+    print_core(printed, &mut short);
     let unknown = b"(surface 0 1)(module m)(postulate a (ref q))";
-    print_asked(Question::Load, unknown);
-    print_asked(Question::Parse, unknown);
-    print_asked(Question::Depends(0, 0), unknown);
+    print_asked(Question::Load, unknown, &mut short);
+    print_asked(Question::Parse, unknown, &mut short);
+    print_asked(Question::Depends(0, 0), unknown, &mut short);
+    print_asked(Question::Print, unknown, &mut short);
+    let spaced =
+        b"(hott-core (format 0 1) (theory \"mltt-core\" 0 1) (declarations (postulate \"x\"  nat)))";
+    print_core(spaced, &mut short);
 }

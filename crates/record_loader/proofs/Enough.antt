@@ -14,6 +14,8 @@ use Rattle.surface.specs.Reader.{Position, Result, done, refused}
 use Rattle.surface.specs.Tables.{Lengths, Tables, tables, Left, leaves}
 use Rattle.surface.specs.Loading.{outcome}
 use Rattle.loader.specs.Parsed.{parsed}
+use Rattle.printing.specs.declared.Printed.{Printed}
+use Rattle.printing.specs.PrintCall.{print-outcome}
 use Rattle.records.specs.Records.{records-of, word-limit}
 use Rattle.records.proofs.Whole.{limit-within}
 use Rattle.record_loader.specs.Recorded.{list-words, front}
@@ -65,6 +67,21 @@ parsed-makes = record { declared = declared; all-else = all-else; none-long = λ
     declared z (done ds p) = refl
 
     all-else : (z : Lengths) (d : ℕ) (t : List ℕ) (r : Result (List Declaration)) → declaring t (parsed (with-words z d) r) ≡ declaring t (parsed z r)
+    all-else z d t (refused x) = refl
+    all-else z d t (done ds p) = refl
+
+-- Printing, whose text buffer goes with its answer.
+abbrev pub printed : List ℕ → ℕ → Lengths → Result (List Declaration) → Left (Printed × List ℕ) Tables
+printed s m z r = let o = print-outcome s z m r in leaves (o .answer, o .text) (o .tables)
+
+pub printed-makes : (s : List ℕ) (m : ℕ) → Makes (printed s m) (resolved-words s)
+printed-makes s m = record { declared = declared; all-else = all-else; none-long = λ r. refl; long = λ ds p. records-long s ds }
+  where
+    declared : (z : Lengths) (r : Result (List Declaration)) → printed s m z r .tables .declarations ≡ pad (z .declarations) (resolved-words s r)
+    declared z (refused x) = refl
+    declared z (done ds p) = refl
+
+    all-else : (z : Lengths) (d : ℕ) (t : List ℕ) (r : Result (List Declaration)) → declaring t (printed s m (with-words z d) r) ≡ declaring t (printed s m z r)
     all-else z d t (refused x) = refl
     all-else z d t (done ds p) = refl
 

@@ -1,4 +1,5 @@
 mod Enough
+mod FirstRecords
 mod Fronts
 pub mod Holds
 mod Lists
@@ -6,5 +7,6 @@ mod Moves
 mod Replying
 mod Room
 mod Settling
+mod Short
 pub mod Statements
 mod Words

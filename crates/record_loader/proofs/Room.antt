@@ -1,6 +1,6 @@
 -- Room for 13,107 declarations is room enough: with more, reading and loading give the same, since a declaration takes five bytes at least and
 -- a source of more than 65,535 is refused.
-use mathlib.Core.Path.{_≡_, refl, ap, subst}
+use mathlib.Core.Path.{_≡_, refl, sym, ap, subst}
 use mathlib.Core.List.{List, [], _∷_}
 use mathlib.Core.Bool.{Bool, true, false, not}
 use Prim.Native.Nat.{ℕ, zero, suc, _+_, _*_, _/_, _≤_}
@@ -8,7 +8,10 @@ use native.Mathlib.Omega.{arith}
 use lib.Dec.{leb, eqb}
 use lib.ListN.{length}
 use borrow.Author.Tests.{leb-true}
+use Rattle.token.specs.Token.{next-token}
 use Rattle.token.specs.declared.TokenKind.{TokenKind}
+use Rattle.token.specs.declared.Lexed.{Lexed}
+use Rattle.token.proofs.Bounds.{bounds, Within}
 use Rattle.token.specs.declared.Token.{Token}
 use Rattle.token.specs.declared.Refusal.{Refusal}
 use Rattle.utf8.specs.Utf8.{valid-length, byte-order-mark}
@@ -17,10 +20,12 @@ use Rattle.terms.specs.Tree.{Tree}
 use Rattle.terms.specs.Label.{Label, Declaration}
 use Rattle.terms.specs.Resolution.{first-refused}
 use Rattle.surface.specs.Reader.{Position, start, Result, done, refused, Reader, after, pure, refuse, require, nowhere, at-offset}
-use Rattle.surface.specs.Reading.{term, token, closing, beginning, declaration, onwards, declarations, head, read-module}
+use Rattle.surface.specs.Reading.{term, token, closing, name, beginning, declaration, ending, onwards, declarations, head, read-module}
+use Rattle.surface.specs.Text.{is-end}
+use Rattle.surface.proofs.SoundModule.{head-done}
 use Rattle.surface.specs.Loading.{Lengths, frame-limit, parsing, reading, accept, loading}
 use Rattle.surface.proofs.Steps.{no-done, after-elim, require-elim, done-inj, open-goes}
-use Rattle.expects.proofs.Ahead.{token-got}
+use Rattle.expects.proofs.Ahead.{source-of, token-got}
 use Rattle.record_loader.proofs.Moves.{Moves, term-moves, five-bytes}
 
 -- What stands behind a reader makes the whole.
@@ -33,49 +38,56 @@ require-same true r p f g h = h refl
 require-same false r p f g h = refl
 
 -- Declarations, given the reader of a type or a body.
-module _ (E : Edition) (s : List ℕ) (whole-term : Reader (Tree Label)) (whole-moves : Moves 1 whole-term) where
+module _ (E : Edition) (within : (s : List ℕ) (at : ℕ) → Within at (length s) (E .tokens s at)) (s : List ℕ) (whole-term : Reader (Tree Label)) (whole-moves : Moves 1 whole-term) where
   onwards-same : (a b : Reader (List Declaration)) (t : Token) (k : TokenKind) (q : Position) → (k ≡ TokenKind.LParen → a q ≡ b q)
-      → onwards E s whole-term a t k q ≡ onwards E s whole-term b t k q
-  unfolding onwards
+      → onwards E s whole-term (name E s) is-end a t k q ≡ onwards E s whole-term (name E s) is-end b t k q
+  unfolding onwards ending
   onwards-same a b t TokenKind.LParen q h = h refl
   onwards-same a b t TokenKind.RParen q h = refl
   onwards-same a b t TokenKind.Atom q h = refl
+  onwards-same a b t TokenKind.String q h = refl
   onwards-same a b t TokenKind.Eof q h = refl
 
   -- With room for a fifth of the bytes that are left, more room changes nothing.
-  more-room : (n m : ℕ) (p : Position) → length s ≤ p .offset + n * 5 → n ≤ m → declarations E s whole-term n p ≡ declarations E s whole-term m p
+  more-room : (n m : ℕ) (p : Position) → length s ≤ p .offset + n * 5 → n ≤ m → declarations E s whole-term (name E s) is-end n p ≡ declarations E s whole-term (name E s) is-end m p
   unfolding declarations
   more-room zero zero p h l = refl
   more-room zero (suc m) p h l =
-      after-same (token s p) _ _ (λ t v e. onwards-same _ _ t (t .kind) v (λ k.
-      let a = token-got s p t v e (open-goes (t .kind) k) in absurd (omega (arith, h, a .low, a .some, a .high))))
+      after-same (token (E .tokens s) p) _ _ (λ t v e. onwards-same _ _ t (t .kind) v (λ k.
+      let a = token-got (source-of E within s) p t v e (open-goes (t .kind) k) in absurd (omega (arith, h, a .low, a .some, a .high))))
   more-room (suc n) zero p h l = absurd (omega arith)
   more-room (suc n) (suc m) p h l =
-      after-same (token s p) _ _ (λ t v e. onwards-same _ _ t (t .kind) v (λ k.
-      after-same (declaration E s whole-term v) _ _ (λ d q f.
-      ap (λ r. after r (λ x. pure (d ∷ x))) (more-room n m q (omega (arith, h, five-bytes s E whole-term whole-moves p v q t d e k f)) (omega arith)))))
+      after-same (token (E .tokens s) p) _ _ (λ t v e. onwards-same _ _ t (t .kind) v (λ k.
+      after-same (declaration E s whole-term (name E s) is-end v) _ _ (λ d q f.
+      ap (λ r. after r (λ x. pure (d ∷ x))) (more-room n m q (omega (arith, h, five-bytes E within s whole-term whole-moves p v q t d e k f)) (omega arith)))))
 
   -- No more declarations than there is room for.
-  at-most : (n : ℕ) (p q : Position) (ds : List Declaration) → declarations E s whole-term n p ≡ done ds q → length ds ≤ n
-  unfolding declarations onwards
-  at-most zero p q ds e = after-elim (token s p) _ ds q e (λ t v f e₁. by-kind t v (t .kind) e₁)
+  at-most : (n : ℕ) (p q : Position) (ds : List Declaration) → declarations E s whole-term (name E s) is-end n p ≡ done ds q → length ds ≤ n
+  unfolding declarations onwards ending
+  at-most zero p q ds e = after-elim (token (E .tokens s) p) _ ds q e (λ t v f e₁. by-kind t v (t .kind) e₁)
     where
-      by-kind : (t : Token) (v : Position) (k : TokenKind) → onwards E s whole-term (refuse (nowhere 9)) t k v ≡ done ds q → length ds ≤ 0
+      by-kind : (t : Token) (v : Position) (k : TokenKind) → onwards E s whole-term (name E s) is-end (refuse (nowhere 9)) t k v ≡ done ds q → length ds ≤ 0
       by-kind t v TokenKind.LParen e = no-done e
       by-kind t v TokenKind.RParen e = no-done e
       by-kind t v TokenKind.Atom e = no-done e
+      by-kind t v TokenKind.String e = no-done e
       by-kind t v TokenKind.Eof e = subst (λ (l : List Declaration). length l ≤ 0) (done-inj e .0) (omega arith)
-  at-most (suc n) p q ds e = after-elim (token s p) _ ds q e (λ t v f e₁. by-kind (at-most n) t v (t .kind) e₁)
+  at-most (suc n) p q ds e = after-elim (token (E .tokens s) p) _ ds q e (λ t v f e₁. by-kind (at-most n) t v (t .kind) e₁)
     where
-      by-kind : ((p₁ q₁ : Position) (l : List Declaration) → declarations E s whole-term n p₁ ≡ done l q₁ → length l ≤ n) → (t : Token) (v : Position) (k : TokenKind)
-          → onwards E s whole-term (λ u. after (declaration E s whole-term u) (λ d w. after (declarations E s whole-term n w) (λ l. pure (d ∷ l)))) t k v ≡ done ds q → length ds ≤ suc n
+      by-kind : ((p₁ q₁ : Position) (l : List Declaration) → declarations E s whole-term (name E s) is-end n p₁ ≡ done l q₁ → length l ≤ n) → (t : Token) (v : Position) (k : TokenKind)
+          → onwards E s whole-term (name E s) is-end (λ u. after (declaration E s whole-term (name E s) is-end u) (λ d w. after (declarations E s whole-term (name E s) is-end n w) (λ l. pure (d ∷ l)))) t k v ≡ done ds q → length ds ≤ suc n
       by-kind ih t v TokenKind.LParen e =
-          after-elim (declaration E s whole-term v) _ ds q e (λ d v₁ f₁ e₁.
-          after-elim (declarations E s whole-term n v₁) _ ds q e₁ (λ l v₂ f₂ e₂.
+          after-elim (declaration E s whole-term (name E s) is-end v) _ ds q e (λ d v₁ f₁ e₁.
+          after-elim (declarations E s whole-term (name E s) is-end n v₁) _ ds q e₁ (λ l v₂ f₂ e₂.
           subst (λ (x : List Declaration). length x ≤ suc n) (done-inj e₂ .0) (omega (arith, ih v₁ v₂ l f₂))))
       by-kind ih t v TokenKind.RParen e = no-done e
       by-kind ih t v TokenKind.Atom e = no-done e
+      by-kind ih t v TokenKind.String e = no-done e
       by-kind ih t v TokenKind.Eof e = subst (λ (l : List Declaration). length l ≤ suc n) (done-inj e .0) (omega arith)
+
+-- The tokens of an edition that a head names stand within the source.
+within-of : (E : Edition) → E .tokens ≡ next-token → (s : List ℕ) (at : ℕ) → Within at (length s) (E .tokens s at)
+within-of E h = subst (λ (T : List ℕ → ℕ → Lexed). (s : List ℕ) (at : ℕ) → Within at (length s) (T s at)) (sym h) bounds
 
 -- A whole module, within the length that is not refused.
 module _ (s : List ℕ) (rows frames : ℕ) where
@@ -83,13 +95,15 @@ module _ (s : List ℕ) (rows frames : ℕ) where
   unfolding read-module
   module-same n m p h k l =
       after-same (head s p) _ _ (λ x q e.
-      more-room (x .edition) s (term (beginning (x .edition) s) (closing s) rows frames) (term-moves s (x .edition) rows frames) n m q (omega arith) l)
+      let w = within-of (x .edition) (head-done s p q x e .tokens) in
+      more-room (x .edition) w s (term (beginning (x .edition) s) (closing (x .edition .tokens s)) rows frames) (term-moves (x .edition) w s rows frames) n m q (omega arith) l)
 
   module-few : (n : ℕ) (p q : Position) (ds : List Declaration) → read-module s rows n frames p ≡ done ds q → length ds ≤ n
   unfolding read-module
   module-few n p q ds e =
       after-elim (head s p) _ ds q e (λ x v f e₁.
-      at-most (x .edition) s (term (beginning (x .edition) s) (closing s) rows frames) (term-moves s (x .edition) rows frames) n v q ds e₁)
+      let w = within-of (x .edition) (head-done s p v x f .tokens) in
+      at-most (x .edition) w s (term (beginning (x .edition) s) (closing (x .edition .tokens s)) rows frames) (term-moves (x .edition) w s rows frames) n v q ds e₁)
 
 -- The lengths of the lent tables, with so many words for the declarations.
 abbrev pub with-words : Lengths → ℕ → Lengths

@@ -4,7 +4,7 @@ use mathlib.Core.List.{List}
 use mathlib.Core.Bool.{Bool, true, false, _&&_}
 use Prim.Native.Nat.{ℕ, _*_, _/_, _≤_}
 use native.Mathlib.Omega.{arith}
-use lib.Dec.{ltb}
+use lib.Dec.{ltb, leb}
 use lib.ListN.{length}
 use borrow.Author.Tests.{ltb-true, ltb-false}
 use Rattle.terms.specs.Label.{Declaration}
@@ -12,6 +12,7 @@ use Rattle.surface.specs.Reader.{Position, start, Result, done, after, pure, re
 use Rattle.surface.specs.Loading.{Lengths, parsing, loading}
 use Rattle.surface.specs.Dependence.{asking}
 use Rattle.surface.proofs.Steps.{after-elim, require-elim, done-inj}
+use Rattle.printing.specs.PrintCall.{text-of, printing}
 use Rattle.records.specs.Records.{word-limit}
 use Rattle.records.proofs.Whole.{limit-below, limit-above}
 use Rattle.record_loader.proofs.Room.{with-words, parsing-same, parsing-few, loading-same, loading-few}
@@ -34,6 +35,16 @@ asking-settles s i j z = record {
   few = λ d q ds e.
       after-elim (loading s (with-words z d) start) _ ds q e (λ ds₁ q₁ f₁ e₁.
       require-elim (ltb i (length ds₁) && ltb j (length ds₁)) (nowhere 12) q₁ _ ds q e₁ (λ _ e₂.
+      subst (λ (l : List Declaration). length l ≤ d / 5) (done-inj e₂ .0) (loading-settles s z .few d q₁ ds₁ f₁)));
+}
+
+pub printing-settles : (s : List ℕ) (m : ℕ) (z : Lengths) → Settles (λ d. printing s (with-words z d) m start)
+unfolding printing
+printing-settles s m z = record {
+  same = λ a b h l. ap (λ r. after r (λ ds p. after (require (leb (length (text-of s ds)) m) (nowhere 14) p) (λ _. pure ds))) (loading-same s z a b h l);
+  few = λ d q ds e.
+      after-elim (loading s (with-words z d) start) _ ds q e (λ ds₁ q₁ f₁ e₁.
+      require-elim (leb (length (text-of s ds₁)) m) (nowhere 14) q₁ _ ds q e₁ (λ _ e₂.
       subst (λ (l : List Declaration). length l ≤ d / 5) (done-inj e₂ .0) (loading-settles s z .few d q₁ ds₁ f₁)));
 }
 

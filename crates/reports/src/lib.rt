@@ -1,5 +1,6 @@
 // An answer as plain numbers, and how the library's functions tell them.
 use lister::Listed;
+use printing::Printed;
 use reader::ModuleRead;
 use same::Comparison;
 use surface::Answer;
@@ -12,6 +13,7 @@ ghost use mathlib.Core.Path.{_≡_};
 ghost use mathlib.Core.List.{[], _∷_, _++_};
 ghost use Rattle.surface.specs.Reports.{offsets, report-refusal, report, report-dependence, token-number, report-token};
 ghost use Rattle.loader.specs.Parsed.{report-read};
+ghost use Rattle.printing.specs.PrintCall.{report-printed};
 ghost use Rattle.same.specs.Comparison.{report-comparison};
 ghost use Rattle.reports.specs.Numbers.{numbers, words, told, report-listed};
 
@@ -74,6 +76,22 @@ pub fn report_read(answer: ModuleRead) -> Numbers
     match answer {
         ModuleRead::Done { rows, declarations } => report_counts(rows, declarations),
         ModuleRead::Refused(refusal) => report_refusal(refusal),
+    }
+}
+
+// Printing: the length of the text.
+pub fn report_printed(answer: Printed) -> Numbers
+    ensures { λ r. ⌜ r ≡ numbers (report-printed answer) ⌝ }
+{
+    match answer {
+        Printed::Text { length } => Numbers {
+            number: 0,
+            count: 1,
+            first: length as u64,
+            second: 0,
+            third: 0,
+        },
+        Printed::Refused(refusal) => report_refusal(refusal),
     }
 }
 
@@ -195,6 +213,7 @@ fn token_number(kind: TokenKind) -> u64
         TokenKind::RParen => 2,
         TokenKind::Atom => 3,
         TokenKind::Eof => 4,
+        TokenKind::String => 5,
     }
 }
 

@@ -1,7 +1,7 @@
 -- The arity of every kind and whether it has a span: those of a table, by one computed test each, and the kinds behind them.
 use Prim.Native.Nat.{ℕ, zero, suc, _+_, _*_, _-_, _/_, _%_, _^_, _≤_, _<_}
 use mathlib.Core.Path.{_≡_, refl, sym, ap, _∙_}
-use mathlib.Core.Bool.{Bool, true, false, _&&_, and-eq-true-iff}
+use mathlib.Core.Bool.{Bool, true, false, not, _&&_, and-eq-true-iff}
 use mathlib.Core.List.{List, [], _∷_}
 use mathlib.Core.Option.{none}
 use native.Mathlib.Decide.{decLt}
@@ -9,8 +9,9 @@ use native.Mathlib.Omega.{arith}
 use native.Mathlib.Nat.{add-zero, zero-add, not-suc-le-zero}
 use lib.Dec.{eqb, ltb, leb}
 use lib.ListN.{getD, replicate, getD-replicate}
-use borrow.Author.Tests.{ne-eqb, ltb-true, leb-true}
-use Rattle.terms.specs.Forms.{Form, forms, form-of-kind, arity-of, holds-span}
+use borrow.Author.Tests.{ne-eqb, ltb-true, leb-true, lt-leb}
+use Rattle.terms.specs.TextForms.{text-forms}
+use Rattle.terms.specs.Forms.{Form, forms, form-of-kind, arity-of, holds-span, holds-span-in}
 
 -- The values of f at i, i + 1, .. , n of them.
 module _ {A : Type 0} (f : ℕ → A) where
@@ -60,8 +61,16 @@ unfolding arity-of
 no-arity k h = rw (no-kind k h, arity-of)
 
 pub no-span : (k : ℕ) → 25 ≤ k → holds-span k ≡ false
-unfolding holds-span
-no-span k h = rw (no-kind k h, holds-span)
+unfolding holds-span-in
+no-span k h = rw (no-kind k h, holds-span-in)
+
+-- In core text the kinds 1 to 3 hold a numeral.
+pub holds-numeral : (k : ℕ) → holds-span-in text-forms k ≡ not (eqb k 0) && leb k 3
+unfolding forms form-of-kind holds-span-in text-forms
+holds-numeral k = elim (decLt k 25) [
+  | yes h ↦ same-value (λ j. not (eqb j 0) && leb j 3) (holds-span-in text-forms) false 25 k refl h
+  | no h ↦ rw (no-form 25 k text-forms refl (omega arith), holds-span-in, ne-eqb k 0 (λ q. omega arith), lt-leb k 3 (omega arith))
+]
 
 -- No term has more than six arguments.
 pub arity-at-most-six : (k : ℕ) → arity-of k ≤ 6

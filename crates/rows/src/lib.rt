@@ -8,10 +8,11 @@ ghost use mathlib.Core.Bool.{cond};
 ghost use mathlib.Core.List.{[], _∷_, _++_};
 ghost use Prim.Native.Nat.{_+_, _*_};
 ghost use lib.ListN.{getD, take};
-ghost use Rattle.terms.specs.Forms.{arity-of, holds-span};
+ghost use Rattle.terms.specs.Forms.{arity-of, holds-span, holds-span-in};
 ghost use Rattle.terms.specs.Label.{part};
 ghost use Rattle.terms.specs.Resolution.{kept};
-ghost use Rattle.terms.specs.Rows.{pad, row, surface-row, core-words};
+ghost use Rattle.terms.specs.Rows.{pad, row, core-words};
+ghost use Rattle.terms.specs.TextForms.{text-forms};
 ghost use Rattle.rows.specs.Places.{has-place, stored-at};
 ghost use Rattle.rows.specs.DeclarationRows.{row-behind, first-row};
 
@@ -59,7 +60,7 @@ fn first_args(args: [u32; 6], len: u32) -> [u32; 6]
 }
 
 // The label's kind, its span if the row has one, the first len arguments, and the label's offset.
-fn row_words(label: Label, span: bool, args: [u32; 6], len: u32) -> [u32; 8]
+pub fn row_words(label: Label, span: bool, args: [u32; 6], len: u32) -> [u32; 8]
     ensures { λ r. ⌜ r ≡ row (label .kind) (cond span (label .start ∷ label .length ∷ []) [] ++ take len args) (label .offset) ⌝ }
 {
     let kind = label.kind;
@@ -73,11 +74,14 @@ fn row_words(label: Label, span: bool, args: [u32; 6], len: u32) -> [u32; 8]
     [kind, a[0], a[1], a[2], a[3], a[4], a[5], offset]
 }
 
-pub fn surface_row(label: Label, args: [u32; 6], len: u32) -> [u32; 8]
-    ensures { λ r. ⌜ r ≡ surface-row (record { label = label; children = take len args }) ⌝ }
+// Whether a term of core text of each kind has the start and length of a numeral in its row: var, global and universe.
+pub fn holds_numeral(kind: u32) -> bool
+    ensures { λ r. ⌜ r ≡ holds-span-in text-forms kind ⌝ }
 {
-    let span = holds_span(label.kind);
-    row_words(label, span, args, len)
+    if kind == 0 {
+        return false;
+    }
+    kind <= 3
 }
 
 // The row of a term that is kept: only a universe has a span in the core module.

@@ -15,43 +15,43 @@ use Rattle.surface.specs.Grammar.{Tokens, Closes, Tag, Terms, no-term, l
 use Rattle.surface.specs.Reader.{Position, done}
 use Rattle.surface.specs.Reading.{leaf, frame, store, finish, several, term, closing, beginning}
 use Rattle.surface.proofs.Frames.{Within, within-rest}
-use Rattle.surface.proofs.Shaped.{GoodEdition, counts, tag-counts, terms-count}
+use Rattle.surface.proofs.Shaped.{CountedEdition, counts, tag-counts, terms-count}
 use Rattle.surface.proofs.Takes.{after-go, require-go, to, first-token, other-tokens, closing-takes, begins-leaf, begins-ref, begins-universe, begins-binding, begins-plain}
 
 grows : (n : ℕ) (f : Forest Label) → n ≤ next n f
 grows n f = omega (arith, next-cells n f)
 
-module _ (E : Edition) (s : List ℕ) (good : GoodEdition E) (limit : ℕ) where
+module _ (E : Edition) (s : List ℕ) (counted : CountedEdition E) (limit : ℕ) where
   -- From p on n terms are read, which are f, where l frames may be open; us follows them.
   pub record Goes (l : ℕ) (p : Position) (n : ℕ) (f : Forest Label) (us : List Token) : Type 0 where
     pub position : Position
-    pub reads : several (beginning E s) (closing s) limit (term (beginning E s) (closing s) limit l) n p ≡ done f position
-    pub left : Tokens s (position .offset) us
+    pub reads : several (beginning E s) (closing (E .tokens s)) limit (term (beginning E s) (closing (E .tokens s)) limit l) n p ≡ done f position
+    pub left : Tokens (E .tokens s) (position .offset) us
     pub rows : position .rows ≡ next (p .rows) f
 
   abbrev stored : Position → Position
   stored p = record { offset = p .offset; rows = suc (p .rows) }
 
-  store-goes : (t : Tree Label) (p : Position) → p .rows < limit → store (beginning E s) (closing s) limit t p ≡ done t (stored p)
+  store-goes : (t : Tree Label) (p : Position) → p .rows < limit → store (beginning E s) (closing (E .tokens s)) limit t p ≡ done t (stored p)
   unfolding store
   store-goes t p h = require-go (ltb (p .rows) limit) _ p _ _ (lt-ltb (p .rows) limit h) refl
 
   leaf-goes : (l : ℕ) (p q : Position) (m : Label) → beginning E s p ≡ done (leaf m) q → q .rows < limit
-      → term (beginning E s) (closing s) limit l p ≡ done (record { label = m; args = nil }) (stored q)
+      → term (beginning E s) (closing (E .tokens s)) limit l p ≡ done (record { label = m; args = nil }) (stored q)
   unfolding term finish
   leaf-goes zero p q m e h = after-go _ _ (leaf m) q _ e (store-goes _ q h)
   leaf-goes (suc l) p q m e h = after-go _ _ (leaf m) q _ e (store-goes _ q h)
 
   frame-goes : (l : ℕ) (p q : Position) (m : Label) (k : ℕ) (a : Forest Label) (c : Token) (us : List Token) → beginning E s p ≡ done (frame m k) q → (g : Goes l q k a (c ∷ us)) → Closes c → next (q .rows) a < limit
-      → term (beginning E s) (closing s) limit (suc l) p ≡ done (record { label = m; args = a }) (stored (to (g .position) c))
+      → term (beginning E s) (closing (E .tokens s)) limit (suc l) p ≡ done (record { label = m; args = a }) (stored (to (g .position) c))
   unfolding term finish
   frame-goes l p q m k a c us e g d h =
       after-go _ _ (frame m k) q _ e
       (after-go _ _ a (g .position) _ (g .reads)
-      (after-go _ _ c (to (g .position) c) _ (closing-takes s (g .position) c (first-token (g .left)) d)
+      (after-go _ _ c (to (g .position) c) _ (closing-takes (E .tokens s) (g .position) c (first-token (g .left)) d)
       (store-goes _ (to (g .position) c) (omega (arith, g .rows)))))
 
-  node-goes : (l : ℕ) (p q : Position) (n : ℕ) (m : Label) (a r : Forest Label) (us : List Token) → term (beginning E s) (closing s) limit l p ≡ done (record { label = m; args = a }) q
+  node-goes : (l : ℕ) (p q : Position) (n : ℕ) (m : Label) (a r : Forest Label) (us : List Token) → term (beginning E s) (closing (E .tokens s)) limit l p ≡ done (record { label = m; args = a }) q
       → q .rows ≡ suc (next (p .rows) a) → Goes l q n r us → Goes l p (suc n) (node m a r) us
   unfolding several
   node-goes l p q n m a r us e h g = record {
@@ -70,7 +70,7 @@ module _ (E : Edition) (s : List ℕ) (good : GoodEdition E) (limit : ℕ) where
   frame-node : (l : ℕ) (p q : Position) (n : ℕ) (m : Label) (k : ℕ) (a r : Forest Label) (c : Token) (us vs : List Token) → beginning E s p ≡ done (frame m k) q → q .rows ≡ p .rows → ¬ (a ≡ nil)
       → Within l (node m a r) → Closes c → next (suc (next (p .rows) a)) r ≤ limit
       → ((i : ℕ) → Within i a → next (q .rows) a ≤ limit → Goes i q k a (c ∷ us))
-      → ((x : Position) → Tokens s (x .offset) us → x .rows ≡ suc (next (p .rows) a) → Goes l x n r vs)
+      → ((x : Position) → Tokens (E .tokens s) (x .offset) us → x .rows ≡ suc (next (p .rows) a) → Goes l x n r vs)
       → Goes l p (suc n) (node m a r) vs
   frame-node zero p q n m k a r c us vs e b z w d h f g = absurd (z (w .0))
   frame-node (suc l) p q n m k a r c us vs e b z w d h f g =
@@ -85,9 +85,9 @@ module _ (E : Edition) (s : List ℕ) (good : GoodEdition E) (limit : ℕ) where
   -- what opens a frame has arguments
   some-arguments : (f : Form) (c : Shape) (t : Token) (a : Forest Label) → Tag E s f c t → counts c (f .arity) ≡ ltb 0 (f .arity) → count a ≡ f .arity → ¬ (a ≡ nil)
   some-arguments f c t a g e h z =
-      omega (arith, ltb-true 0 (f .arity) (sym e ∙ tag-counts E s good f c t g), h, ap count z)
+      omega (arith, ltb-true 0 (f .arity) (sym e ∙ tag-counts E s counted f c t g), h, ap count z)
 
-  pub terms-go : {n : ℕ} {ts us : List Token} {f : Forest Label} → Terms E s n ts f us → (l : ℕ) (p : Position) → Tokens s (p .offset) ts → Within l f → next (p .rows) f ≤ limit → Goes l p n f us
+  pub terms-go : {n : ℕ} {ts us : List Token} {f : Forest Label} → Terms E s n ts f us → (l : ℕ) (p : Position) → Tokens (E .tokens s) (p .offset) ts → Within l f → next (p .rows) f ≤ limit → Goes l p n f us
   unfolding several
   terms-go no-term l p k w h = record { position = p; reads = refl; left = k; rows = refl }
   terms-go (leaf-term {t = t} {us = us} {n = n} {r = r} {f = f} g d) l p k w h =

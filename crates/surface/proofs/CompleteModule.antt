@@ -6,7 +6,9 @@ use mathlib.Core.Bool.{true, false, _&&_}
 use Prim.Native.Nat.{ℕ, _≤_, max}
 use native.Mathlib.Omega.{arith}
 use lib.ListN.{length}
+use Rattle.token.specs.Token.{next-token}
 use Rattle.token.specs.declared.Token.{Token}
+use Rattle.token.specs.declared.Lexed.{Lexed}
 use Rattle.words.specs.Words.{ascii, all, numeral}
 use Rattle.words.proofs.Names.{eq-same}
 use Rattle.terms.specs.Forms.{Edition, edition-0-1}
@@ -18,7 +20,7 @@ use Rattle.surface.specs.Reader.{Position, start, done}
 use Rattle.surface.specs.Reading.{name, declarations, edition-of, supported, surface-line, module-line, head as head-reader, read-module}
 use Rattle.surface.proofs.Frames.{deepest}
 use Rattle.surface.proofs.Steps.{done-inj}
-use Rattle.surface.proofs.Shaped.{head-good}
+use Rattle.surface.proofs.Shaped.{version-tokens, head-tokens, head-counted}
 use Rattle.surface.proofs.Takes.{after-go, to, first-token, other-tokens, opening-takes, closing-takes, word-takes, natural-takes, name-takes}
 use Rattle.surface.proofs.CompleteDeclarations.{declarations-go}
 
@@ -46,10 +48,10 @@ supported-goes o E p e = ap (λ (x : Option Edition). supported x p) e
 pub record HeadGoes (s : List ℕ) (p : Position) (E : Edition) (x : Token) (us : List Token) : Type 0 where
   pub position : Position
   pub reads : head-reader s p ≡ done (record { edition = E; name = x }) position
-  pub left : Tokens s (position .offset) us
+  pub left : Tokens (next-token s) (position .offset) us
   pub rows : position .rows ≡ p .rows
 
-pub head-goes : {s : List ℕ} {ts us : List Token} {E : Edition} {x : Token} → Head s ts E x us → (p : Position) → Tokens s (p .offset) ts → HeadGoes s p E x us
+pub head-goes : {s : List ℕ} {ts us : List Token} {E : Edition} {x : Token} → Head s ts E x us → (p : Position) → Tokens (next-token s) (p .offset) ts → HeadGoes s p E x us
 unfolding head-reader surface-line module-line
 head-goes {s} (head {o = o} {w = w} {v₀ = a} {v₁ = b} {c = c} {p = u} {m = m} {x = x} {d = d} {E = E} o₁ o₂ v o₅ o₆ o₇ o₈ o₉) p k₁ =
     let k₂ = other-tokens k₁ in
@@ -65,17 +67,17 @@ head-goes {s} (head {o = o} {w = w} {v₀ = a} {v₁ = b} {c = c} {p = u} {m = m
       position = to p d;
       reads =
           after-go _ _ E (to p c) _
-          (after-go _ _ o (to p o) _ (opening-takes s p o (first-token k₁) o₁)
-          (after-go _ _ w (to p w) _ (word-takes s (ascii "surface") (to p o) w (first-token k₂) o₂)
-          (after-go _ _ a (to p a) _ (natural-takes s (to p w) a (first-token k₃) (n .0))
-          (after-go _ _ b (to p b) _ (natural-takes s (to p a) b (first-token k₄) (n .1))
-          (after-go _ _ c (to p c) _ (closing-takes s (to p b) c (first-token k₅) o₅)
+          (after-go _ _ o (to p o) _ (opening-takes (next-token s) p o (first-token k₁) o₁)
+          (after-go _ _ w (to p w) _ (word-takes (next-token s) s (ascii "surface") (to p o) w (first-token k₂) o₂)
+          (after-go _ _ a (to p a) _ (natural-takes (next-token s) s (to p w) a (first-token k₃) (n .0))
+          (after-go _ _ b (to p b) _ (natural-takes (next-token s) s (to p a) b (first-token k₄) (n .1))
+          (after-go _ _ c (to p c) _ (closing-takes (next-token s) (to p b) c (first-token k₅) o₅)
           (supported-goes (edition-of (text s a) (text s b)) E (to p c) (version-edition v)))))))
           (after-go _ _ x (to p d) _
-          (after-go _ _ u (to p u) _ (opening-takes s (to p c) u (first-token k₆) o₆)
-          (after-go _ _ m (to p m) _ (word-takes s (ascii "module") (to p u) m (first-token k₇) o₇)
-          (after-go _ _ x (to p x) _ (name-takes E s (to p m) x (first-token k₈) o₈)
-          (after-go _ _ d (to p d) _ (closing-takes s (to p x) d (first-token k₉) o₉) refl))))
+          (after-go _ _ u (to p u) _ (opening-takes (next-token s) (to p c) u (first-token k₆) o₆)
+          (after-go _ _ m (to p m) _ (word-takes (next-token s) s (ascii "module") (to p u) m (first-token k₇) o₇)
+          (after-go _ _ x (to p x) _ (name-takes E s (to p m) x (ap (λ (T : List ℕ → ℕ → Lexed). T s (m .end)) (version-tokens v) ∙ first-token k₈) o₈)
+          (after-go _ _ d (to p d) _ (closing-takes (next-token s) (to p x) d (first-token k₉) o₉) refl))))
           refl);
       left = other-tokens k₉;
       rows = refl;
@@ -91,7 +93,7 @@ pub complete : (s : List ℕ) (limit room frames : ℕ) (ds : List Declaration) 
 unfolding read-module
 complete s limit room frames ds d i f h =
     let a = head-goes (d .head) start (d .lexed) in
-    let g = declarations-go (d .edition) s (head-good (d .head)) limit frames (d .declarations) room (a .position) (a .left) i f (subst (λ (m : ℕ). total m ds ≤ limit) (sym (a .rows)) h) in
+    let g = declarations-go (d .edition) s (head-counted (d .head)) limit frames (d .declarations) room (a .position) (subst (λ (T : List ℕ → ℕ → Lexed). Tokens (T s) (a .position .offset) (d .rest)) (sym (head-tokens (d .head))) (a .left)) i f (subst (λ (m : ℕ). total m ds ≤ limit) (sym (a .rows)) h) in
     record {
       position = g .position;
       reads = after-go _ _ (record { edition = d .edition; name = d .name }) (a .position) _ (a .reads) (g .reads);

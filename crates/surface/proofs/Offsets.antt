@@ -68,7 +68,7 @@ module _ (s : List ℕ) where
   Lexed [] = Unit {0}
   Lexed (t ∷ ts) = ((at : ℕ) × (next-token s at ≡ Got t)) × Lexed ts
 
-  all-lexed : (at : ℕ) (ts : List Token) → Tokens s at ts → Lexed ts
+  all-lexed : (at : ℕ) (ts : List Token) → Tokens (next-token s) at ts → Lexed ts
   all-lexed at [] k = tt
   all-lexed at (t ∷ ts) (the-next e g k) = ((at, e), all-lexed (t .end) ts k)
 

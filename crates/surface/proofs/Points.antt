@@ -7,13 +7,13 @@ use lib.ListN.{length}
 use Rattle.token.specs.Token.{byte-class, layout-end, atom-from, token-here, next-token}
 use Rattle.words.specs.Words.{ascii, same-bytes, reserved-words, place-in, word-index, reserved, all, identifier, numeral}
 use Rattle.utf8.specs.Utf8.{table-3-7, following, valid-from, valid-length, byte-order-mark}
-use Rattle.terms.specs.Forms.{forms, edition-0-1, form-of-word, form-of-kind, holds-span}
+use Rattle.terms.specs.Forms.{forms, edition-0-1, form-of-word, form-of-kind, holds-span-in}
 use Rattle.terms.specs.Resolution.{find, core-of, first-unknown, first-refused}
 use Rattle.terms.specs.Label.{Declaration}
 use Rattle.surface.specs.declared.Answer.{Answer}
 use Rattle.surface.specs.declared.Answer.the-variants.{Loaded, Refused}
 use Rattle.surface.specs.Reader.{start, Result, done, refused, nowhere, at-offset}
-use Rattle.surface.specs.Reading.{store, finish, several, term, token, opening, closing, atom, word, natural, declaration-kind, name, bare, tagged, known, beginning-on, beginning, body, declared, declaration, onwards, declarations, edition-of, supported, surface-line, module-line, head, read-module}
+use Rattle.surface.specs.Reading.{store, finish, several, term, token, opening, closing, atom, word, natural, declaration-kind, name, bare, tagged, known, beginning-on, beginning, body, declared, declaration, ending, onwards, declarations, edition-of, supported, surface-line, module-line, head, read-module}
 use Rattle.surface.specs.Loading.{Lengths, parsing, reading, loading, load}
 use Rattle.surface.specs.Card.{H, listing-lengths}
 
@@ -116,7 +116,7 @@ points =
     []
 
 pub readings : map (λ p. load (p .source) (p .lent) .answer) points ≡ map (λ p. p .gives) points
-unfolding byte-class layout-end atom-from token-here next-token same-bytes reserved-words place-in word-index reserved all identifier numeral table-3-7 following valid-from valid-length byte-order-mark forms edition-0-1 form-of-word form-of-kind holds-span find core-of first-unknown first-refused store finish several term token opening closing atom word natural declaration-kind name bare tagged known beginning-on beginning body declared declaration onwards declarations edition-of supported surface-line module-line head read-module parsing reading loading load
+unfolding byte-class layout-end atom-from token-here next-token same-bytes reserved-words place-in word-index reserved all identifier numeral table-3-7 following valid-from valid-length byte-order-mark forms edition-0-1 form-of-word form-of-kind holds-span-in find core-of first-unknown first-refused store finish several term token opening closing atom word natural declaration-kind name bare tagged known beginning-on beginning body declared declaration ending onwards declarations edition-of supported surface-line module-line head read-module parsing reading loading load
 readings = refl
 
 -- The answer of reading alone, where so many frames may be open in one term.
@@ -161,5 +161,5 @@ depths =
     []
 
 pub open-frames : map (λ d. with-frames (d .frames) (d .source)) depths ≡ map (λ d. d .gives) depths
-unfolding byte-class layout-end atom-from token-here next-token same-bytes reserved-words place-in word-index reserved all identifier numeral forms edition-0-1 form-of-word store finish several term token opening closing atom word natural declaration-kind name bare tagged known beginning-on beginning body declared declaration onwards declarations edition-of supported surface-line module-line head read-module
+unfolding byte-class layout-end atom-from token-here next-token same-bytes reserved-words place-in word-index reserved all identifier numeral forms edition-0-1 form-of-word store finish several term token opening closing atom word natural declaration-kind name bare tagged known beginning-on beginning body declared declaration ending onwards declarations edition-of supported surface-line module-line head read-module
 open-frames = refl

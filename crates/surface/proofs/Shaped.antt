@@ -7,6 +7,7 @@ use native.Mathlib.Decide.{ℕ-discrete}
 use native.Mathlib.Omega.{arith}
 use lib.Dec.{leb, ltb, eqb}
 use borrow.Author.Tests.{leb-true, eqb-true}
+use Rattle.token.specs.Token.{next-token}
 use Rattle.token.specs.declared.Token.{Token}
 use Rattle.terms.specs.Forms.{Shape, alone, with-name, with-numeral, binding, plain, Form, forms, Edition, edition-0-1, form-of-kind, arity-of}
 use Rattle.terms.specs.Tree.{Forest, relabel, count}
@@ -25,9 +26,12 @@ counts with-numeral n = eqb n 0
 counts binding n = ltb 0 n
 counts plain n = ltb 0 n
 
+abbrev pub counted-form : Form → Bool
+counted-form f = counts (f .shape) (f .arity)
+
 -- That is so of a form, its kind is no core kind, and it is the form of its kind.
 abbrev pub good-form : Form → Bool
-good-form f = counts (f .shape) (f .arity) && (leb 3 (f .kind) && eqb (arity-of (f .kind)) (f .arity))
+good-form f = counted-form f && (leb 3 (f .kind) && eqb (arity-of (f .kind)) (f .arity))
 
 pub record Good (f : Form) : Type 0 where
   pub counted : counts (f .shape) (f .arity) ≡ true
@@ -40,17 +44,39 @@ good-is f e =
     let b = and-eq-true-iff (leb 3 (f .kind)) _ .0 (a .1) in
     record { counted = a .0; low = leb-true 3 (f .kind) (b .0); arities = eqb-true (arity-of (f .kind)) (f .arity) (b .1) }
 
+-- An edition whose forms all have as many arguments as their shapes want.
+abbrev pub CountedEdition : Edition → Type 0
+CountedEdition E = every counted-form (E .forms) ≡ true
+
 -- An edition whose forms are all good.
 abbrev pub GoodEdition : Edition → Type 0
 GoodEdition E = every good-form (E .forms) ≡ true
+
+counted-0-1 : CountedEdition edition-0-1
+unfolding edition-0-1 forms
+counted-0-1 = refl
 
 good-0-1 : GoodEdition edition-0-1
 unfolding edition-0-1 forms arity-of form-of-kind
 good-0-1 = refl
 
 -- Each edition that a head can name is.
+pub version-counted : {s : List ℕ} {v₀ v₁ : Token} {E : Edition} → Version s v₀ v₁ E → CountedEdition E
+version-counted (version-0-1 a b) = counted-0-1
+
 pub version-good : {s : List ℕ} {v₀ v₁ : Token} {E : Edition} → Version s v₀ v₁ E → GoodEdition E
 version-good (version-0-1 a b) = good-0-1
+
+-- Its tokens are those of a source.
+pub version-tokens : {s : List ℕ} {v₀ v₁ : Token} {E : Edition} → Version s v₀ v₁ E → E .tokens ≡ next-token
+unfolding edition-0-1
+version-tokens (version-0-1 a b) = refl
+
+pub head-tokens : {s : List ℕ} {ts us : List Token} {E : Edition} {x : Token} → Head s ts E x us → E .tokens ≡ next-token
+head-tokens (head o w v c p m x d) = version-tokens v
+
+pub head-counted : {s : List ℕ} {ts us : List Token} {E : Edition} {x : Token} → Head s ts E x us → CountedEdition E
+head-counted (head o w v c p m x d) = version-counted v
 
 pub head-good : {s : List ℕ} {ts us : List Token} {E : Edition} {x : Token} → Head s ts E x us → GoodEdition E
 head-good (head o w v c p m x d) = version-good v
@@ -67,13 +93,17 @@ terms-count (plain-term o g a c k) = ap suc (terms-count k)
 pub tag-good : (E : Edition) (s : List ℕ) → GoodEdition E → (f : Form) (c : Shape) (t : Token) → Tag E s f c t → Good f
 tag-good E s good f c t g = good-is f (of-word good-form (text s t) (E .forms) f good (g .is))
 
-pub tag-counts : (E : Edition) (s : List ℕ) → GoodEdition E → (f : Form) (c : Shape) (t : Token) → Tag E s f c t → counts c (f .arity) ≡ true
-tag-counts E s good f c t g = subst (λ (x : Shape). counts x (f .arity) ≡ true) (g .shape) (tag-good E s good f c t g .counted)
+pub tag-counts : (E : Edition) (s : List ℕ) → CountedEdition E → (f : Form) (c : Shape) (t : Token) → Tag E s f c t → counts c (f .arity) ≡ true
+tag-counts E s counted f c t g =
+    subst (λ (x : Shape). counts x (f .arity) ≡ true) (g .shape) (of-word counted-form (text s t) (E .forms) f counted (g .is))
 
 -- Each term has as many arguments as its kind wants.
 module _ (E : Edition) (s : List ℕ) (good : GoodEdition E) where
   no-arguments : (f : Form) (c : Shape) (t : Token) → Tag E s f c t → counts c (f .arity) ≡ eqb (f .arity) 0 → 0 ≡ arity-of (f .kind)
-  no-arguments f c t g e = omega (arith, tag-good E s good f c t g .arities, eqb-true (f .arity) 0 (sym e ∙ tag-counts E s good f c t g))
+  no-arguments f c t g e =
+      let w = tag-good E s good f c t g in
+      let h : counts c (f .arity) ≡ true = subst (λ (x : Shape). counts x (f .arity) ≡ true) (g .shape) (w .counted) in
+      omega (arith, w .arities, eqb-true (f .arity) 0 (sym e ∙ h))
 
   args-many : (f : Form) (c : Shape) (t : Token) (a : Forest Label) → Tag E s f c t → count a ≡ f .arity → count (relabel (named s) a) ≡ arity-of (f .kind)
   args-many f c t a g e = count-relabel (named s) a ∙ e ∙ sym (tag-good E s good f c t g .arities)

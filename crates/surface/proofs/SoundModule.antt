@@ -6,7 +6,9 @@ use mathlib.Core.Bool.{Bool, true, false, _&&_}
 use Prim.Native.Nat.{ℕ, _≤_}
 use native.Mathlib.Omega.{arith}
 use lib.ListN.{length}
+use Rattle.token.specs.Token.{next-token}
 use Rattle.token.specs.declared.Token.{Token}
+use Rattle.token.specs.declared.Lexed.{Lexed}
 use Rattle.words.specs.Words.{ascii, same-bytes}
 use Rattle.words.proofs.Names.{same-eq}
 use Rattle.terms.specs.Forms.{Edition, edition-0-1}
@@ -17,7 +19,8 @@ use Rattle.surface.specs.Grammar.{Tokens, Numeral, Version, version-0-1,
 use Rattle.surface.specs.Reader.{Position, start, done}
 use Rattle.surface.specs.Reading.{opening, closing, word, natural, name, declarations, Head as HeadRead, edition-of, supported, surface-line, module-line, head as head-reader, read-module}
 use Rattle.surface.proofs.Frames.{deepest}
-use Rattle.surface.proofs.Steps.{no-done, after-elim, done-inj, done-as, open-goes, close-goes, atom-goes, before, same-rows, opening-done, closing-done, word-done, natural-done, name-done}
+use Rattle.surface.proofs.Shaped.{version-tokens}
+use Rattle.surface.proofs.Steps.{Took, no-done, after-elim, done-inj, done-as, open-goes, close-goes, atom-goes, before, same-rows, opening-done, closing-done, word-done, natural-done, name-done}
 use Rattle.surface.proofs.SoundDeclarations.{declarations-done}
 
 -- An edition that reading supports is the grammar's.
@@ -38,44 +41,48 @@ supported-done (some F) p q E e k = let i = done-inj e in k (ap {B = Option Edit
 
 -- The head, in front of the tokens that follow it.
 pub record HeadDone (s : List ℕ) (p : Position) (h : HeadRead) (q : Position) : Type 0 where
-  pub derived : (ts : List Token) → Tokens s (q .offset) ts → (us : List Token) × Tokens s (p .offset) us × Head s us (h .edition) (h .name) ts
+  pub derived : (ts : List Token) → Tokens (next-token s) (q .offset) ts → (us : List Token) × Tokens (next-token s) (p .offset) us × Head s us (h .edition) (h .name) ts
   pub rows : q .rows ≡ p .rows
+  pub tokens : h .edition .tokens ≡ next-token
 
 pub head-done : (s : List ℕ) (p q : Position) (h : HeadRead) → head-reader s p ≡ done h q → HeadDone s p h q
 unfolding head-reader surface-line module-line
 head-done s p q h e =
     after-elim (surface-line s p) _ h q e (λ E q₁ f₁ e₁.
     after-elim (module-line s E q₁) _ h q e₁ (λ x r₄ f₂ e₂.
-    after-elim (opening s p) _ E q₁ f₁ (λ o p₁ g₁ h₁.
-    after-elim (word s (ascii "surface") p₁) _ E q₁ h₁ (λ w p₂ g₂ h₂.
-    after-elim (natural s p₂) _ E q₁ h₂ (λ a p₃ g₃ h₃.
-    after-elim (natural s p₃) _ E q₁ h₃ (λ b p₄ g₄ h₄.
-    after-elim (closing s p₄) _ E q₁ h₄ (λ c p₅ g₅ h₅.
+    after-elim (opening (next-token s) p) _ E q₁ f₁ (λ o p₁ g₁ h₁.
+    after-elim (word (next-token s) s (ascii "surface") p₁) _ E q₁ h₁ (λ w p₂ g₂ h₂.
+    after-elim (natural (next-token s) s p₂) _ E q₁ h₂ (λ a p₃ g₃ h₃.
+    after-elim (natural (next-token s) s p₃) _ E q₁ h₃ (λ b p₄ g₄ h₄.
+    after-elim (closing (next-token s) p₄) _ E q₁ h₄ (λ c p₅ g₅ h₅.
     supported-done (edition-of (text s a) (text s b)) p₅ q₁ E h₅ (λ v j.
-    after-elim (opening s q₁) _ x r₄ f₂ (λ u r₁ k₁ l₁.
-    after-elim (word s (ascii "module") r₁) _ x r₄ l₁ (λ m r₂ k₂ l₂.
+    after-elim (opening (next-token s) q₁) _ x r₄ f₂ (λ u r₁ k₁ l₁.
+    after-elim (word (next-token s) s (ascii "module") r₁) _ x r₄ l₁ (λ m r₂ k₂ l₂.
     after-elim (name E s r₂) _ x r₄ l₂ (λ y r₃ k₃ l₃.
-    after-elim (closing s r₃) _ x r₄ l₃ (λ d r₅ k₄ l₄.
-    let o₁ = opening-done s p p₁ o g₁ in
-    let o₂ = word-done s (ascii "surface") p₁ p₂ w g₂ in
-    let o₃ = natural-done s p₂ p₃ a g₃ in
-    let o₄ = natural-done s p₃ p₄ b g₄ in
-    let o₅ = closing-done s p₄ p₅ c g₅ in
-    let i₁ = opening-done s q₁ r₁ u k₁ in
-    let i₂ = word-done s (ascii "module") r₁ r₂ m k₂ in
+    after-elim (closing (next-token s) r₃) _ x r₄ l₃ (λ d r₅ k₄ l₄.
+    let o₁ = opening-done (next-token s) p p₁ o g₁ in
+    let o₂ = word-done (next-token s) s (ascii "surface") p₁ p₂ w g₂ in
+    let o₃ = natural-done (next-token s) s p₂ p₃ a g₃ in
+    let o₄ = natural-done (next-token s) s p₃ p₄ b g₄ in
+    let o₅ = closing-done (next-token s) p₄ p₅ c g₅ in
+    let i₁ = opening-done (next-token s) q₁ r₁ u k₁ in
+    let i₂ = word-done (next-token s) s (ascii "module") r₁ r₂ m k₂ in
     let i₃ = name-done E s r₂ r₃ y k₃ in
-    let i₄ = closing-done s r₃ r₅ d k₄ in
+    let i₄ = closing-done (next-token s) r₃ r₅ d k₄ in
+    let v₁ = edition-is s a b E v (o₃ .1) (o₄ .1) in
+    let i₅ : Took (next-token s) r₂ y r₃ = subst (λ (T : List ℕ → ℕ → Lexed). Took (T s) r₂ y r₃) (version-tokens v₁) (i₃ .0) in
     done-as (HeadDone s p) e₂ (done-as (λ x r. HeadDone s p (record { edition = E; name = x }) r) l₄ (record {
       derived = λ ts k. (
         o ∷ w ∷ a ∷ b ∷ c ∷ u ∷ m ∷ y ∷ d ∷ ts,
-        before s p p₁ o _ (o₁ .0) (open-goes _ (o₁ .1)) (before s p₁ p₂ w _ (o₂ .0) (atom-goes _ (o₂ .1 .atom)) (before s p₂ p₃ a _ (o₃ .0) (atom-goes _ (o₃ .1 .atom))
-            (before s p₃ p₄ b _ (o₄ .0) (atom-goes _ (o₄ .1 .atom)) (before s p₄ p₅ c _ (o₅ .0) (close-goes _ (o₅ .1)) (subst (λ (r : Position). Tokens s (r .offset) (u ∷ m ∷ y ∷ d ∷ ts)) (sym j)
-            (before s q₁ r₁ u _ (i₁ .0) (open-goes _ (i₁ .1)) (before s r₁ r₂ m _ (i₂ .0) (atom-goes _ (i₂ .1 .atom)) (before s r₂ r₃ y _ (i₃ .0) (atom-goes _ (i₃ .1 .atom))
-            (before s r₃ r₅ d _ (i₄ .0) (close-goes _ (i₄ .1)) k))))))))),
-        head (o₁ .1) (o₂ .1) (edition-is s a b E v (o₃ .1) (o₄ .1)) (o₅ .1) (i₁ .1) (i₂ .1) (i₃ .1) (i₄ .1),
+        before (next-token s) p p₁ o _ (o₁ .0) (open-goes _ (o₁ .1)) (before (next-token s) p₁ p₂ w _ (o₂ .0) (atom-goes _ (o₂ .1 .atom)) (before (next-token s) p₂ p₃ a _ (o₃ .0) (atom-goes _ (o₃ .1 .atom))
+            (before (next-token s) p₃ p₄ b _ (o₄ .0) (atom-goes _ (o₄ .1 .atom)) (before (next-token s) p₄ p₅ c _ (o₅ .0) (close-goes _ (o₅ .1)) (subst (λ (r : Position). Tokens (next-token s) (r .offset) (u ∷ m ∷ y ∷ d ∷ ts)) (sym j)
+            (before (next-token s) q₁ r₁ u _ (i₁ .0) (open-goes _ (i₁ .1)) (before (next-token s) r₁ r₂ m _ (i₂ .0) (atom-goes _ (i₂ .1 .atom)) (before (next-token s) r₂ r₃ y _ i₅ (atom-goes _ (i₃ .1 .atom))
+            (before (next-token s) r₃ r₅ d _ (i₄ .0) (close-goes _ (i₄ .1)) k))))))))),
+        head (o₁ .1) (o₂ .1) v₁ (o₅ .1) (i₁ .1) (i₂ .1) (i₃ .1) (i₄ .1),
       );
-      rows = same-rows s r₃ r₅ d (i₄ .0) ∙ same-rows s r₂ r₃ y (i₃ .0) ∙ same-rows s r₁ r₂ m (i₂ .0) ∙ same-rows s q₁ r₁ u (i₁ .0) ∙ ap (λ (r : Position). r .rows) (sym j)
-          ∙ same-rows s p₄ p₅ c (o₅ .0) ∙ same-rows s p₃ p₄ b (o₄ .0) ∙ same-rows s p₂ p₃ a (o₃ .0) ∙ same-rows s p₁ p₂ w (o₂ .0) ∙ same-rows s p p₁ o (o₁ .0);
+      rows = same-rows (next-token s) r₃ r₅ d (i₄ .0) ∙ same-rows (next-token s) r₂ r₃ y i₅ ∙ same-rows (next-token s) r₁ r₂ m (i₂ .0) ∙ same-rows (next-token s) q₁ r₁ u (i₁ .0) ∙ ap (λ (r : Position). r .rows) (sym j)
+          ∙ same-rows (next-token s) p₄ p₅ c (o₅ .0) ∙ same-rows (next-token s) p₃ p₄ b (o₄ .0) ∙ same-rows (next-token s) p₂ p₃ a (o₃ .0) ∙ same-rows (next-token s) p₁ p₂ w (o₂ .0) ∙ same-rows (next-token s) p p₁ o (o₁ .0);
+      tokens = version-tokens v₁;
     }))))))))))))))
 
 -- A module, where there is room for so many rows and declarations, and so many frames may be open in one term.
@@ -92,7 +99,7 @@ sound s limit room frames ds q e =
     after-elim (head-reader s start) _ ds q e (λ h p f e₁.
     let a = head-done s start p h f in
     let b = declarations-done (h .edition) s limit frames room p q ds e₁ in
-    let c = a .derived (b .derived .tokens) (b .derived .lexed) in
+    let c = a .derived (b .derived .tokens) (subst (λ (T : List ℕ → ℕ → Lexed). Tokens (T s) (p .offset) (b .derived .tokens)) (a .tokens) (b .derived .lexed)) in
     record {
       derives = record {
         tokens = c .0;

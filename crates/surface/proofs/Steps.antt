@@ -43,18 +43,21 @@ pub open-is : (k : TokenKind) → is-open k ≡ true → k ≡ TokenKind.LParen
 open-is TokenKind.LParen e = refl
 open-is TokenKind.RParen e = absurd (false≢true e)
 open-is TokenKind.Atom e = absurd (false≢true e)
+open-is TokenKind.String e = absurd (false≢true e)
 open-is TokenKind.Eof e = absurd (false≢true e)
 
 pub close-is : (k : TokenKind) → is-close k ≡ true → k ≡ TokenKind.RParen
 close-is TokenKind.LParen e = absurd (false≢true e)
 close-is TokenKind.RParen e = refl
 close-is TokenKind.Atom e = absurd (false≢true e)
+close-is TokenKind.String e = absurd (false≢true e)
 close-is TokenKind.Eof e = absurd (false≢true e)
 
 pub atom-is : (k : TokenKind) → is-atom k ≡ true → k ≡ TokenKind.Atom
 atom-is TokenKind.LParen e = absurd (false≢true e)
 atom-is TokenKind.RParen e = absurd (false≢true e)
 atom-is TokenKind.Atom e = refl
+atom-is TokenKind.String e = absurd (false≢true e)
 atom-is TokenKind.Eof e = absurd (false≢true e)
 
 pub open-goes : (k : TokenKind) → k ≡ TokenKind.LParen → ¬ (k ≡ TokenKind.Eof)
@@ -67,70 +70,71 @@ pub atom-goes : (k : TokenKind) → k ≡ TokenKind.Atom → ¬ (k ≡ TokenKind
 atom-goes k e f = let z : _≡_ {A = ℕ} 0 1 = cc in omega arith
 
 -- The token t was taken between two positions.
-pub record Took (s : List ℕ) (p : Position) (t : Token) (q : Position) : Type 0 where
-  pub next : next-token s (p .offset) ≡ Got t
+pub record Took (next : ℕ → Lexed) (p : Position) (t : Token) (q : Position) : Type 0 where
+  pub takes : next (p .offset) ≡ Got t
   pub position : q ≡ record { offset = t .end; rows = p .rows }
 
 -- Then it stands before the tokens that follow.
-pub before : (s : List ℕ) (p q : Position) (t : Token) (ts : List Token) → Took s p t q → ¬ (t .kind ≡ TokenKind.Eof) → Tokens s (q .offset) ts → Tokens s (p .offset) (t ∷ ts)
-before s p q t ts w g h = the-next (w .next) g (subst (λ (x : Position). Tokens s (x .offset) ts) (w .position) h)
+pub before : (next : ℕ → Lexed) (p q : Position) (t : Token) (ts : List Token) → Took next p t q → ¬ (t .kind ≡ TokenKind.Eof) → Tokens next (q .offset) ts → Tokens next (p .offset) (t ∷ ts)
+before next p q t ts w g h = the-next (w .takes) g (subst (λ (x : Position). Tokens next (x .offset) ts) (w .position) h)
 
-pub same-rows : (s : List ℕ) (p q : Position) (t : Token) → Took s p t q → q .rows ≡ p .rows
-same-rows s p q t w = ap (λ (x : Position). x .rows) (w .position)
+pub same-rows : (next : ℕ → Lexed) (p q : Position) (t : Token) → Took next p t q → q .rows ≡ p .rows
+same-rows next p q t w = ap (λ (x : Position). x .rows) (w .position)
 
-module _ (s : List ℕ) where
-  pub token-done : (p q : Position) (t : Token) → token s p ≡ done t q → Took s p t q
+module _ (next : ℕ → Lexed) where
+  pub token-done : (p q : Position) (t : Token) → token next p ≡ done t q → Took next p t q
   unfolding token
-  token-done p q t e = go (next-token s (p .offset)) refl e
+  token-done p q t e = go (next (p .offset)) refl e
     where
-      go : (x : Lexed) → next-token s (p .offset) ≡ x → lexed s (p .rows) x ≡ done t q → Took s p t q
-      go (Got u) f g = let i = done-inj g in record { next = f ∙ ap {B = Lexed} Got (i .0); position = sym (i .1) ∙ ap (λ (v : Token). record { offset = v .end; rows = p .rows }) (i .0) }
+      go : (x : Lexed) → next (p .offset) ≡ x → lexed (p .rows) x ≡ done t q → Took next p t q
+      go (Got u) f g = let i = done-inj g in record { takes = f ∙ ap {B = Lexed} Got (i .0); position = sym (i .1) ∙ ap (λ (v : Token). record { offset = v .end; rows = p .rows }) (i .0) }
       go (Refused r) f g = no-done g
 
-  pub opening-done : (p q : Position) (t : Token) → opening s p ≡ done t q → Took s p t q × Opens t
+  pub opening-done : (p q : Position) (t : Token) → opening next p ≡ done t q → Took next p t q × Opens t
   unfolding opening
   opening-done p q t e =
-      after-elim (token s p) _ t q e (λ u v f e₁.
+      after-elim (token next p) _ t q e (λ u v f e₁.
       require-elim (is-open (u .kind)) _ v _ t q e₁ (λ b e₂.
-      done-as (λ x y. Took s p x y × Opens x) e₂ (token-done p v u f, open-is (u .kind) b)))
+      done-as (λ x y. Took next p x y × Opens x) e₂ (token-done p v u f, open-is (u .kind) b)))
 
-  pub closing-done : (p q : Position) (t : Token) → closing s p ≡ done t q → Took s p t q × Closes t
+  pub closing-done : (p q : Position) (t : Token) → closing next p ≡ done t q → Took next p t q × Closes t
   unfolding closing
   closing-done p q t e =
-      after-elim (token s p) _ t q e (λ u v f e₁.
+      after-elim (token next p) _ t q e (λ u v f e₁.
       require-elim (is-close (u .kind)) _ v _ t q e₁ (λ b e₂.
-      done-as (λ x y. Took s p x y × Closes x) e₂ (token-done p v u f, close-is (u .kind) b)))
+      done-as (λ x y. Took next p x y × Closes x) e₂ (token-done p v u f, close-is (u .kind) b)))
 
-  pub atom-done : (p q : Position) (t : Token) → atom s p ≡ done t q → Took s p t q × (t .kind ≡ TokenKind.Atom)
+  pub atom-done : (p q : Position) (t : Token) → atom next p ≡ done t q → Took next p t q × (t .kind ≡ TokenKind.Atom)
   unfolding atom
   atom-done p q t e =
-      after-elim (token s p) _ t q e (λ u v f e₁.
+      after-elim (token next p) _ t q e (λ u v f e₁.
       require-elim (is-atom (u .kind)) _ v _ t q e₁ (λ b e₂.
-      done-as (λ x y. Took s p x y × (x .kind ≡ TokenKind.Atom)) e₂ (token-done p v u f, atom-is (u .kind) b)))
+      done-as (λ x y. Took next p x y × (x .kind ≡ TokenKind.Atom)) e₂ (token-done p v u f, atom-is (u .kind) b)))
 
-  pub word-done : (w : List ℕ) (p q : Position) (t : Token) → word s w p ≡ done t q → Took s p t q × Word s w t
-  unfolding word
-  word-done w p q t e =
-      after-elim (atom s p) _ t q e (λ u v f e₁.
-      require-elim (same-bytes (text s u) w) _ v _ t q e₁ (λ b e₂.
-      let a = atom-done p v u f in
-      done-as (λ x y. Took s p x y × Word s w x) e₂ (a .0, record { atom = a .1; is = same-eq _ _ b })))
+  module _ (s : List ℕ) where
+    pub word-done : (w : List ℕ) (p q : Position) (t : Token) → word next s w p ≡ done t q → Took next p t q × Word s w t
+    unfolding word
+    word-done w p q t e =
+        after-elim (atom next p) _ t q e (λ u v f e₁.
+        require-elim (same-bytes (text s u) w) _ v _ t q e₁ (λ b e₂.
+        let a = atom-done p v u f in
+        done-as (λ x y. Took next p x y × Word s w x) e₂ (a .0, record { atom = a .1; is = same-eq _ _ b })))
 
-  pub natural-done : (p q : Position) (t : Token) → natural s p ≡ done t q → Took s p t q × Numeral s t
-  unfolding natural
-  natural-done p q t e =
-      after-elim (atom s p) _ t q e (λ u v f e₁.
-      require-elim (numeral (text s u)) _ v _ t q e₁ (λ b e₂.
-      let a = atom-done p v u f in
-      done-as (λ x y. Took s p x y × Numeral s x) e₂ (a .0, record { atom = a .1; is = b })))
+    pub natural-done : (p q : Position) (t : Token) → natural next s p ≡ done t q → Took next p t q × Numeral s t
+    unfolding natural
+    natural-done p q t e =
+        after-elim (atom next p) _ t q e (λ u v f e₁.
+        require-elim (numeral (text s u)) _ v _ t q e₁ (λ b e₂.
+        let a = atom-done p v u f in
+        done-as (λ x y. Took next p x y × Numeral s x) e₂ (a .0, record { atom = a .1; is = b })))
 
 -- With the reserved words of an edition.
 module _ (E : Edition) (s : List ℕ) where
-  pub name-done : (p q : Position) (t : Token) → name E s p ≡ done t q → Took s p t q × Name E s t
+  pub name-done : (p q : Position) (t : Token) → name E s p ≡ done t q → Took (E .tokens s) p t q × Name E s t
   unfolding name
   name-done p q t e =
-      after-elim (atom s p) _ t q e (λ u v f e₁.
+      after-elim (atom (E .tokens s) p) _ t q e (λ u v f e₁.
       require-elim (not (E .reserved (text s u))) _ v _ t q e₁ (λ b e₂.
       require-elim (identifier (text s u)) _ v _ t q e₂ (λ c e₃.
-      let a = atom-done s p v u f in
-      done-as (λ x y. Took s p x y × Name E s x) e₃ (a .0, record { atom = a .1; unreserved = not-true _ b; is = c }))))
+      let a = atom-done (E .tokens s) p v u f in
+      done-as (λ x y. Took (E .tokens s) p x y × Name E s x) e₃ (a .0, record { atom = a .1; unreserved = not-true _ b; is = c }))))

@@ -7,6 +7,7 @@ use Prim.Native.Nat.{ℕ, suc, _-_}
 use Rattle.token.specs.Token.{next-token}
 use Rattle.token.specs.declared.TokenKind.{TokenKind}
 use Rattle.token.specs.declared.Token.{Token}
+use Rattle.token.specs.declared.Lexed.{Lexed}
 use Rattle.token.specs.declared.Lexed.the-variants.{Got}
 use Rattle.words.specs.Words.{ascii, identifier, numeral}
 use Rattle.terms.specs.Forms.{Shape, alone, with-name, with-numeral, binding, plain, Form, Edition, edition-0-1, form-of-word}
@@ -14,10 +15,10 @@ use Rattle.terms.specs.Tree.{Forest, nil, node, Tree, tree}
 use Rattle.terms.specs.Label.{Label, Declaration}
 use Rattle.surface.specs.Text.{text, label-with, label-alone}
 
--- The tokens of the source s from an offset on are ts, and then comes the end token.
-pub data Tokens (s : List ℕ) : ℕ → List Token → Type 0 where
-  the-end : {at : ℕ} {t : Token} → next-token s at ≡ Got t → t .kind ≡ TokenKind.Eof → Tokens s at []
-  the-next : {at : ℕ} {t : Token} {ts : List Token} → next-token s at ≡ Got t → ¬ (t .kind ≡ TokenKind.Eof) → Tokens s (t .end) ts → Tokens s at (t ∷ ts)
+-- The tokens from an offset on are ts, and then comes the end token; `next` gives the one at or behind an offset.
+pub data Tokens (next : ℕ → Lexed) : ℕ → List Token → Type 0 where
+  the-end : {at : ℕ} {t : Token} → next at ≡ Got t → t .kind ≡ TokenKind.Eof → Tokens next at []
+  the-next : {at : ℕ} {t : Token} {ts : List Token} → next at ≡ Got t → ¬ (t .kind ≡ TokenKind.Eof) → Tokens next (t .end) ts → Tokens next at (t ∷ ts)
 
 abbrev pub Opens : Token → Type 0
 Opens t = t .kind ≡ TokenKind.LParen
@@ -111,7 +112,7 @@ pub data Head (s : List ℕ) : List Token → Edition → Token → List Token �
 -- The source s is a module with the declarations ds: "`(surface 0 1)`, `(module NAME)`, then declarations".
 pub record Derives (s : List ℕ) (ds : List Declaration) : Type 0 where
   pub tokens : List Token
-  pub lexed : Tokens s 0 tokens
+  pub lexed : Tokens (next-token s) 0 tokens
   pub edition : Edition
   pub name : Token
   pub rest : List Token

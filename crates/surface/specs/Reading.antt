@@ -1,7 +1,7 @@
 -- Document 01, "The module read" and "When nothing is loaded": reading order, as a plain recursive reader.
 use mathlib.Core.List.{List, [], _∷_}
 use mathlib.Core.Option.{Option, none, some}
-use mathlib.Core.Bool.{true, false, not, _&&_}
+use mathlib.Core.Bool.{Bool, true, false, not, _&&_}
 use Prim.Native.Nat.{ℕ, zero, suc, _-_}
 use lib.Dec.{ltb}
 use Rattle.token.specs.Token.{next-token}
@@ -13,7 +13,7 @@ use Rattle.words.specs.Words.{ascii, same-bytes, identifier, numeral}
 use Rattle.terms.specs.Forms.{Shape, alone, with-name, with-numeral, binding, plain, Form, Edition, edition-0-1, form-of-word}
 use Rattle.terms.specs.Tree.{Forest, nil, Tree, tree}
 use Rattle.terms.specs.Label.{Label, Declaration}
-use Rattle.surface.specs.Text.{text, label-with, label-alone, is-open, is-close, is-atom}
+use Rattle.surface.specs.Text.{text, label-with, label-alone, is-open, is-close, is-atom, is-end}
 use Rattle.surface.specs.Reader.{Result, done, refused, Reader, _>>=_, _>>_, pure, refuse, position, move-to, require, nowhere, at-token}
 
 -- What a term begins with: the whole of a term without arguments; or a frame, with the number of its arguments.
@@ -57,14 +57,14 @@ module _ (beginning : Reader Beginning) (close : Reader Token) (limit : ℕ) whe
     b ← beginning
     finish (several (term frames)) b
 
--- Tokens. "1 malformed, with offset: that byte's, else the first byte of the token that doesn't fit"
-module _ (s : List ℕ) where
-  abbrev pub lexed : ℕ → Lexed → Result Token
-  lexed rows (Refused r) = refused r
-  lexed rows (Got t) = done t (record { offset = t .end; rows = rows })
+abbrev pub lexed : ℕ → Lexed → Result Token
+lexed rows (Refused r) = refused r
+lexed rows (Got t) = done t (record { offset = t .end; rows = rows })
 
+-- Tokens, given the one at or behind an offset. "1 malformed, with offset: that byte's, else the first byte of the token that doesn't fit"
+module _ (next : ℕ → Lexed) where
   unfoldable pub token : Reader Token
-  token p = lexed (p .rows) (next-token s (p .offset))
+  token p = lexed (p .rows) (next (p .offset))
 
   unfoldable pub opening : Reader Token
   opening = do
@@ -84,17 +84,18 @@ module _ (s : List ℕ) where
     require (is-atom (t .kind)) (at-token 1 t)
     pure t
 
-  unfoldable pub word : List ℕ → Reader Token
-  word w = do
-    t ← atom
-    require (same-bytes (text s t) w) (at-token 1 t)
-    pure t
+  module _ (s : List ℕ) where
+    unfoldable pub word : List ℕ → Reader Token
+    word w = do
+      t ← atom
+      require (same-bytes (text s t) w) (at-token 1 t)
+      pure t
 
-  unfoldable pub natural : Reader Token
-  natural = do
-    t ← atom
-    require (numeral (text s t)) (at-token 1 t)
-    pure t
+    unfoldable pub natural : Reader Token
+    natural = do
+      t ← atom
+      require (numeral (text s t)) (at-token 1 t)
+      pure t
 
 -- "declaration record: kind (postulate 1, transparent 2, opaque 3)": the kind of a declaration's word, 0 for any other word.
 unfoldable pub declaration-kind : List ℕ → ℕ
@@ -104,12 +105,12 @@ declaration-kind w =
       | false ↦ elim (same-bytes w (ascii "transparent")) [ true ↦ 2 | false ↦ elim (same-bytes w (ascii "opaque")) [ true ↦ 3 | false ↦ 0 ] ]
     ]
 
--- With the reserved words and the forms of an edition.
+-- With the tokens, the reserved words and the forms of an edition.
 module _ (E : Edition) (s : List ℕ) where
   -- "The reserved test comes before the identifier test." "3 reserved name, with offset"
   unfoldable pub name : Reader Token
   name = do
-    t ← atom s
+    t ← atom (E .tokens s)
     require (not (E .reserved (text s t))) (at-token 3 t)
     require (identifier (text s t)) (at-token 1 t)
     pure t
@@ -127,11 +128,11 @@ module _ (E : Edition) (s : List ℕ) where
   tagged o t f alone = refuse (at-token 1 t)
   tagged o t f with-name = do
     x ← name
-    c ← closing s
+    c ← closing (E .tokens s)
     pure (leaf (label-with f x (o .start)))
   tagged o t f with-numeral = do
-    x ← natural s
-    c ← closing s
+    x ← natural (E .tokens s) s
+    c ← closing (E .tokens s)
     pure (leaf (label-with f x (o .start)))
   tagged o t f binding = do
     x ← name
@@ -144,16 +145,17 @@ module _ (E : Edition) (s : List ℕ) where
 
   unfoldable pub beginning-on : Token → TokenKind → Reader Beginning
   beginning-on t TokenKind.LParen = do
-    w ← atom s
+    w ← atom (E .tokens s)
     known (λ f. tagged t w f (f .shape)) w (form-of-word (text s w) (E .forms))
   beginning-on t TokenKind.RParen = refuse (at-token 1 t)
   beginning-on t TokenKind.Atom = known (λ f. bare t f (f .shape)) t (form-of-word (text s t) (E .forms))
+  beginning-on t TokenKind.String = refuse (at-token 1 t)
   beginning-on t TokenKind.Eof = refuse (at-token 1 t)
 
   -- What stands at the beginning of a term.
   unfoldable pub beginning : Reader Beginning
   beginning = do
-    t ← token s
+    t ← token (E .tokens s)
     beginning-on t (t .kind)
 
   -- Declarations, given the reader of a type or a body.
@@ -165,41 +167,49 @@ module _ (E : Edition) (s : List ℕ) where
       b ← whole-term
       pure (some b)
 
-    -- A declaration of some kind behind its word t.
-    unfoldable pub declared : Token → ℕ → Reader Declaration
-    declared t zero = refuse (at-token 1 t)
-    declared t (suc k) = do
-      x ← name
-      a ← whole-term
-      b ← body k
-      c ← closing s
-      pure (record { kind = suc k; start = x .start; length = x .end - x .start; type = a; body = b })
+    -- Given besides the reader of a declaration's name, and the tokens that end the declarations.
+    module _ (declared-name : Reader Token) (ends : TokenKind → Bool) where
+      -- A declaration of some kind behind its word t.
+      unfoldable pub declared : Token → ℕ → Reader Declaration
+      declared t zero = refuse (at-token 1 t)
+      declared t (suc k) = do
+        x ← declared-name
+        a ← whole-term
+        b ← body k
+        c ← closing (E .tokens s)
+        pure (record { kind = suc k; start = x .start; length = x .end - x .start; type = a; body = b })
 
-    -- A declaration behind its parenthesis.
-    unfoldable pub declaration : Reader Declaration
-    declaration = do
-      t ← atom s
-      declared t (declaration-kind (text s t))
+      -- A declaration behind its parenthesis.
+      unfoldable pub declaration : Reader Declaration
+      declaration = do
+        t ← atom (E .tokens s)
+        declared t (declaration-kind (text s t))
 
-    -- Declarations to the end, given the reader of those behind an opening parenthesis t.
-    unfoldable pub onwards : Reader (List Declaration) → Token → TokenKind → Reader (List Declaration)
-    onwards more t TokenKind.LParen = more
-    onwards more t TokenKind.RParen = refuse (at-token 1 t)
-    onwards more t TokenKind.Atom = refuse (at-token 1 t)
-    onwards more t TokenKind.Eof = pure []
+      unfoldable pub ending : Token → TokenKind → Reader (List Declaration)
+      ending t k = do
+        require (ends k) (at-token 1 t)
+        pure []
 
-    -- Declarations to the end, where there is room for so many.
-    -- "9 declaration list (..) full when a declaration's parenthesis opens, before its tag"
-    unfoldable pub declarations : ℕ → Reader (List Declaration)
-    declarations zero = do
-      t ← token s
-      onwards (refuse (nowhere 9)) t (t .kind)
-    declarations (suc n) = do
-      t ← token s
-      onwards (do
-        d ← declaration
-        l ← declarations n
-        pure (d ∷ l)) t (t .kind)
+      -- Declarations to the end, given the reader of those behind an opening parenthesis t.
+      unfoldable pub onwards : Reader (List Declaration) → Token → TokenKind → Reader (List Declaration)
+      onwards more t TokenKind.LParen = more
+      onwards more t TokenKind.RParen = ending t TokenKind.RParen
+      onwards more t TokenKind.Atom = ending t TokenKind.Atom
+      onwards more t TokenKind.String = ending t TokenKind.String
+      onwards more t TokenKind.Eof = ending t TokenKind.Eof
+
+      -- Declarations to the end, where there is room for so many.
+      -- "9 declaration list (..) full when a declaration's parenthesis opens, before its tag"
+      unfoldable pub declarations : ℕ → Reader (List Declaration)
+      declarations zero = do
+        t ← token (E .tokens s)
+        onwards (refuse (nowhere 9)) t (t .kind)
+      declarations (suc n) = do
+        t ← token (E .tokens s)
+        onwards (do
+          d ← declaration
+          l ← declarations n
+          pure (d ∷ l)) t (t .kind)
 
 -- The head: what the first two lines give.
 pub record Head : Type 0 where
@@ -219,20 +229,20 @@ module _ (s : List ℕ) where
   -- `(surface 0 1)`
   unfoldable pub surface-line : Reader Edition
   surface-line = do
-    o ← opening s
-    w ← word s (ascii "surface")
-    a ← natural s
-    b ← natural s
-    c ← closing s
+    o ← opening (next-token s)
+    w ← word (next-token s) s (ascii "surface")
+    a ← natural (next-token s) s
+    b ← natural (next-token s) s
+    c ← closing (next-token s)
     supported (edition-of (text s a) (text s b))
 
   -- `(module NAME)`
   unfoldable pub module-line : Edition → Reader Token
   module-line E = do
-    o ← opening s
-    w ← word s (ascii "module")
+    o ← opening (next-token s)
+    w ← word (next-token s) s (ascii "module")
     x ← name E s
-    c ← closing s
+    c ← closing (next-token s)
     pure x
 
   unfoldable pub head : Reader Head
@@ -246,4 +256,4 @@ module _ (s : List ℕ) where
   unfoldable pub read-module : ℕ → ℕ → ℕ → Reader (List Declaration)
   read-module rows room frames = do
     h ← head
-    declarations (h .edition) s (term (beginning (h .edition) s) (closing s) rows frames) room
+    let E = h .edition in declarations E s (term (beginning E s) (closing (E .tokens s)) rows frames) (name E s) is-end room

@@ -37,12 +37,13 @@ report-dependence (D.Dependence.Yes row) = accepted (row ∷ [])
 report-dependence D.Dependence.No = accepted []
 report-dependence (D.Dependence.Refused r) = report-refusal r
 
--- The token function: a token's kind, in the order in which the Rust names them, its start and its end.
+-- The token function: a token's kind, in the order in which the Rust names them, its start and its end. A source has no strings.
 abbrev pub token-number : TokenKind → ℕ
 token-number TokenKind.LParen = 1
 token-number TokenKind.RParen = 2
 token-number TokenKind.Atom = 3
 token-number TokenKind.Eof = 4
+token-number TokenKind.String = 5
 
 abbrev pub report-token : L.Lexed → Report
 report-token (L.Lexed.Got t) = accepted (token-number (t .kind) ∷ t .start ∷ t .end ∷ [])

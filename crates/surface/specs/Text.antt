@@ -22,16 +22,33 @@ abbrev pub is-open : TokenKind → Bool
 is-open TokenKind.LParen = true
 is-open TokenKind.RParen = false
 is-open TokenKind.Atom = false
+is-open TokenKind.String = false
 is-open TokenKind.Eof = false
 
 abbrev pub is-close : TokenKind → Bool
 is-close TokenKind.LParen = false
 is-close TokenKind.RParen = true
 is-close TokenKind.Atom = false
+is-close TokenKind.String = false
 is-close TokenKind.Eof = false
 
 abbrev pub is-atom : TokenKind → Bool
 is-atom TokenKind.LParen = false
 is-atom TokenKind.RParen = false
 is-atom TokenKind.Atom = true
+is-atom TokenKind.String = false
 is-atom TokenKind.Eof = false
+
+abbrev pub is-string : TokenKind → Bool
+is-string TokenKind.LParen = false
+is-string TokenKind.RParen = false
+is-string TokenKind.Atom = false
+is-string TokenKind.String = true
+is-string TokenKind.Eof = false
+
+abbrev pub is-end : TokenKind → Bool
+is-end TokenKind.LParen = false
+is-end TokenKind.RParen = false
+is-end TokenKind.Atom = false
+is-end TokenKind.String = false
+is-end TokenKind.Eof = true

@@ -4,6 +4,8 @@ use mathlib.Core.Option.{Option, none, some}
 use mathlib.Core.Bool.{Bool, true, false}
 use Prim.Native.Nat.{ℕ}
 use lib.Dec.{eqb}
+use Rattle.token.specs.Token.{next-token}
+use Rattle.token.specs.declared.Lexed.{Lexed}
 use Rattle.words.specs.Words.{ascii, same-bytes, reserved}
 
 -- "Kinds: var 1, global 2, universe 3, pi 4, lam 5, .. sigma 7, .. ref 24": those that a definition speaks of by name.
@@ -74,13 +76,14 @@ forms =
     form (ascii "j") 13 plain 6 ∷
     []
 
--- What differs between editions of the format: the forms and the reserved words.
+-- What differs between the formats that are read: the tokens, that is, the one at or behind an offset; the forms; the reserved words.
 pub record Edition : Type 0 where
+  pub tokens : List ℕ → ℕ → Lexed
   pub forms : List Form
   pub reserved : List ℕ → Bool
 
 unfoldable pub edition-0-1 : Edition
-edition-0-1 = record { forms = forms; reserved = reserved }
+edition-0-1 = record { tokens = next-token; forms = forms; reserved = reserved }
 
 -- The form of a word, if it has one.
 unfoldable pub form-of-word : List ℕ → List Form → Option Form
@@ -104,6 +107,10 @@ has-atom with-numeral = true
 has-atom binding = true
 has-atom plain = false
 
--- Whether a term of a kind has such an atom.
-unfoldable pub holds-span : ℕ → Bool
-holds-span k = elim (form-of-kind k forms) [ none ↦ false | some f ↦ has-atom (f .shape) ]
+-- Whether a term of a kind has such an atom, by some forms.
+unfoldable pub holds-span-in : List Form → ℕ → Bool
+holds-span-in l k = elim (form-of-kind k l) [ none ↦ false | some f ↦ has-atom (f .shape) ]
+
+-- The same by those of a source.
+abbrev pub holds-span : ℕ → Bool
+holds-span k = holds-span-in forms k

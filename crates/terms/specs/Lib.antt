@@ -1,4 +1,5 @@
 pub mod Forms
+pub mod TextForms
 pub mod Tree
 pub mod Label
 pub mod Resolution

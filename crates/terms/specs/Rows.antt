@@ -1,6 +1,6 @@
 -- Document 01, "The module read" and "The core module", and document 02, Req 01: rows of eight words and declaration records of five.
 use mathlib.Core.List.{List, [], _∷_, _++_, map}
-use mathlib.Core.Bool.{cond}
+use mathlib.Core.Bool.{Bool, cond}
 use Prim.Native.Nat.{ℕ, zero, suc}
 use lib.Dec.{eqb}
 use lib.ListN.{take, drop}
@@ -23,9 +23,13 @@ row k fields offset = k ∷ pad 6 fields ++ (offset ∷ [])
 abbrev pub span : Label → List ℕ
 span l = l .start ∷ l .length ∷ []
 
+-- The row of a term that was read, where some kinds hold a start and a length.
+abbrev pub row-holding : (ℕ → Bool) → Cell Label → List ℕ
+row-holding holds c = row (c .label .kind) (cond (holds (c .label .kind)) (span (c .label)) [] ++ c .children) (c .label .offset)
+
 -- "Ref and universe hold start and length of their atom; pi, sigma and lam hold their binder's start and length, then children."
 abbrev pub surface-row : Cell Label → List ℕ
-surface-row c = row (c .label .kind) (cond (holds-span (c .label .kind)) (span (c .label)) [] ++ c .children) (c .label .offset)
+surface-row = row-holding holds-span
 
 -- "Core row k has surface row k's kind and children without the binder, and a universe its start and length;
 -- ref becomes var with a count, or global with a place from 0." A module with an unknown reference leaves no row.
@@ -48,10 +52,13 @@ core-words l c children = row (core-kind l c) (core-fields l c children) (l .off
 abbrev pub core-row : Cell Resolved → List ℕ
 core-row c = core-words (c .label .label) (c .label .core) (c .children)
 
--- The rows of a module, declaration by declaration; the first is row n.
+-- The rows of a module, declaration by declaration, given the row of a term; the first is row n.
+abbrev pub rows-by : (Cell Label → List ℕ) → ℕ → List Declaration → List (List ℕ)
+rows-by row-of n [] = []
+rows-by row-of n (d ∷ l) = map row-of (cells n (trees d)) ++ rows-by row-of (next n (trees d)) l
+
 abbrev pub surface-rows : ℕ → List Declaration → List (List ℕ)
-surface-rows n [] = []
-surface-rows n (d ∷ l) = map surface-row (cells n (trees d)) ++ surface-rows (next n (trees d)) l
+surface-rows = rows-by surface-row
 
 abbrev pub core-rows : ℕ → List CoreDeclaration → List (List ℕ)
 core-rows n [] = []

@@ -22,6 +22,7 @@ abbrev pub SpanOf : TokenKind → ℕ → ℕ → ℕ → ℕ → Type 0
 SpanOf TokenKind.LParen lo a e hi = Span lo a e hi
 SpanOf TokenKind.RParen lo a e hi = Span lo a e hi
 SpanOf TokenKind.Atom lo a e hi = Span lo a e hi
+SpanOf TokenKind.String lo a e hi = Span lo a e hi
 SpanOf TokenKind.Eof lo a e hi = lo ≤ hi → (a ≡ hi) × (e ≡ hi)
 
 abbrev pub Within : ℕ → ℕ → Lexed → Type 0

@@ -17,6 +17,7 @@ module _ (s : List ℕ) where
   ByteOf TokenKind.LParen a = take 1 (drop a s) ≡ 40 ∷ []
   ByteOf TokenKind.RParen a = Unit {0}
   ByteOf TokenKind.Atom a = Unit {0}
+  ByteOf TokenKind.String a = Unit {0}
   ByteOf TokenKind.Eof a = Unit {0}
 
   abbrev Shows : Lexed → Type 0

@@ -17,10 +17,12 @@ pub enum ByteClass {
     Refused,
 }
 
+// A string is a token of core text alone.
 pub enum TokenKind {
     LParen,
     RParen,
     Atom,
+    String,
     Eof,
 }
 

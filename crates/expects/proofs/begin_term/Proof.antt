@@ -5,7 +5,9 @@ use mathlib.Core.List.{[], _∷_}
 use native.Mathlib.Omega.{arith}
 use types.Run.{miss}
 use Rattle.token.specs.declared.TokenKind.{TokenKind}
-use Rattle.expects.proofs.Ahead.{next-inside}
+use Rattle.expects.specs.Formats.{edition}
+use Rattle.expects.proofs.Formats.{bounded}
+use Rattle.expects.proofs.Ahead.{source, next-inside}
 use Rattle.expects.proofs.Terms.{term-refused, term-on, term-not}
 use borrow.Author.Needs.{needs}
 use Rattle.expects.proofs.begin_term.Statement.{statement}
@@ -32,7 +34,7 @@ enum-told-2 c = search needs
 begin-bare-requires : tie.Need-begin-bare-requires
 begin-bare-requires c κs =
     let k = c .before .before .before in
-    next-inside _ _ _ (sym (k .before .before .next-token .ensures) ∙ k .l2 .given .1)
+    next-inside (source (k .before .before .before .before .args .format) _) _ _ (sym (k .before .before .next-token .ensures) ∙ k .l2 .given .1)
     (λ q. let z : _≡_ {A = ℕ} 0 1 = cc (c .enum-told2 .given .1) in omega arith)
 
 refused-at-requires : tie.Need-refused-at-requires
@@ -41,28 +43,28 @@ refused-at-requires c κs = search needs
 returns : tie.Need-returns
 returns c =
     let k = c .before in
-    term-refused _ _ _ _ (k .before .before .next-token .ensures) _ (k .l .given .1)
+    term-refused (edition (k .before .before .before .before .args .format)) (bounded (k .before .before .before .before .args .format)) _ _ _ (k .before .before .next-token .ensures) _ (k .l .given .1)
 
 returns-2 : tie.Need-returns-2
 returns-2 c =
     let o = c .before in
     let k = o .before .before .before in
-    term-on _ _ _ _ (k .before .before .next-token .ensures) _ (k .l2 .given .1) TokenKind.LParen (o .enum-told .given .1)
+    term-on (edition (k .before .before .before .before .args .format)) (bounded (k .before .before .before .before .args .format)) _ _ _ (k .before .before .next-token .ensures) _ (k .l2 .given .1) TokenKind.LParen (o .enum-told .given .1)
     (λ q. let z : _≡_ {A = ℕ} 0 1 = cc in omega arith) (c .begin-form .result) (c .begin-form .ensures)
 
 returns-3 : tie.Need-returns-3
 returns-3 c =
     let o = c .before in
     let k = o .before .before .before in
-    term-on _ _ _ _ (k .before .before .next-token .ensures) _ (k .l2 .given .1) TokenKind.Atom (o .enum-told2 .given .1)
-    (λ q. let z : _≡_ {A = ℕ} 0 1 = cc in omega arith) (c .begin-bare .result) (c .begin-bare .ensures)
+    term-on (edition (k .before .before .before .before .args .format)) (bounded (k .before .before .before .before .args .format)) _ _ _ (k .before .before .next-token .ensures) _ (k .l2 .given .1) TokenKind.Atom (o .enum-told2 .given .1)
+    (λ q. let z : _≡_ {A = ℕ} 0 1 = cc in omega arith) (c .begin-bare .result) (c .begin-bare .ensures (k .before .before .before .before .args .format))
 
 returns-4 : tie.Need-returns-4
 returns-4 c =
     let k = c .before .before .before in
-    term-not _ _ _ _ (k .before .before .next-token .ensures) _ (k .l2 .given .1)
-    (λ q. miss (1 ∷ 3 ∷ []) 0 tt (rw q at (c .before .match2 .keys3)))
-    (λ q. miss (1 ∷ 3 ∷ []) 2 tt (rw q at (c .before .match2 .keys3))) _ (c .refused-at .ensures)
+    term-not (edition (k .before .before .before .before .args .format)) (bounded (k .before .before .before .before .args .format)) _ _ _ (k .before .before .next-token .ensures) _ (k .l2 .given .1)
+    (λ q. miss (1 ∷ 3 ∷ 4 ∷ []) 0 tt (rw q at (c .before .match2 .keys3)))
+    (λ q. miss (1 ∷ 3 ∷ 4 ∷ []) 2 tt (rw q at (c .before .match2 .keys3))) _ (c .refused-at .ensures)
 
 pub begin-term-spec : {M : Type 1} → statement M
 begin-term-spec =

@@ -1,4 +1,5 @@
 -- `expects::close_leaf` meets its contract.
+use Rattle.expects.specs.Formats.{edition}
 use Rattle.expects.proofs.Ahead.{inside-got}
 use Rattle.expects.proofs.Terms.{leaf-refused, leaf-unclosed, leaf-got}
 use borrow.Author.Needs.{needs}
@@ -28,19 +29,19 @@ label-with-requires c κs =
 returns : tie.Need-returns
 returns c =
     let k = c .before in
-    leaf-refused _ _ _ _ _ (k .x .given .1)
+    leaf-refused (edition (k .before .before .before .args .format)) _ _ _ _ _ (k .x .given .1)
 
 returns-2 : tie.Need-returns-2
 returns-2 c =
     let i = c .before in
     let k = i .before .before .before .before in
-    leaf-unclosed _ _ _ _ _ (k .x2 .given .1) _ (i .before .before .expect-rparen .ensures) _ (i .c .given .1)
+    leaf-unclosed (edition (k .before .before .before .args .format)) _ _ _ _ _ (k .x2 .given .1) _ (i .before .before .expect-rparen .ensures) _ (i .c .given .1)
 
 returns-3 : tie.Need-returns-3
 returns-3 c =
     let i = c .before .before in
     let k = i .before .before .before .before in
-    leaf-got _ _ _ _ _ (k .x2 .given .1) _ (i .before .before .expect-rparen .ensures) _ (i .c2 .given .1)
+    leaf-got (edition (k .before .before .before .args .format)) _ _ _ _ _ (k .x2 .given .1) _ (i .before .before .expect-rparen .ensures) _ (i .c2 .given .1)
     (inside-got _ _ _ (k .before .before .before .pre) (k .x2 .given .1)) _ (c .label-with .ensures)
 
 pub close-leaf-spec : {M : Type 1} → statement M

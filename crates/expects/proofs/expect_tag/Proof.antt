@@ -19,12 +19,12 @@ expect-atom-requires c κs = search needs
 returns : tie.Need-returns
 returns c =
     let k = c .before in
-    tag-refused _ _ _ _ (k .before .before .expect-lparen .ensures) _ (k .l .given .1)
+    tag-refused _ _ _ _ _ (k .before .before .expect-lparen .ensures) _ (k .l .given .1)
 
 returns-2 : tie.Need-returns-2
 returns-2 c =
     let k = c .before .before in
-    tag-got _ _ _ _ (k .before .before .expect-lparen .ensures) _ (k .l2 .given .1) (c .expect-atom .result) (c .expect-atom .ensures)
+    tag-got _ _ _ _ _ (k .before .before .expect-lparen .ensures) _ (k .l2 .given .1) (c .expect-atom .result) (c .expect-atom .ensures)
 
 pub expect-tag-spec : {M : Type 1} → statement M
 expect-tag-spec =

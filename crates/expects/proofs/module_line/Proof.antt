@@ -1,5 +1,6 @@
 -- `expects::module_line` meets its contract.
 use Rattle.expects.proofs.Lines.{module-refused, name-refused, close-refused, module-got}
+use Rattle.terms.specs.Forms.{edition-0-1}
 use borrow.Author.Needs.{needs}
 use Rattle.expects.proofs.module_line.Statement.{statement}
 use Rattle.expects.proofs.module_line.Tie as tie
@@ -35,17 +36,20 @@ enum-known-c-2 : tie.Need-enum-known-c-2
 enum-known-c-2 c = search needs
 
 returns : tie.Need-returns
+unfolding edition-0-1
 returns c =
     let k = c .before in
     module-refused _ (c .before .before .before .before .before .before .args .format) _ _ (k .before .before .expect-tag .ensures) _ (k .l .given .1)
 
 returns-2 : tie.Need-returns-2
+unfolding edition-0-1
 returns-2 c =
     let i = c .before in
     let k = i .before .before .before .before in
     name-refused _ (c .before .before .before .before .before .before .before .before .before .before .args .format) _ _ (k .before .before .expect-tag .ensures) _ (k .l2 .given .1) _ (i .before .before .parse-identifier .ensures) _ (i .m .given .1)
 
 returns-3 : tie.Need-returns-3
+unfolding edition-0-1
 returns-3 c =
     let j = c .before in
     let i = j .before .before .before .before in
@@ -54,6 +58,7 @@ returns-3 c =
     (j .before .before .expect-rparen .ensures) _ (j .c .given .1)
 
 returns-4 : tie.Need-returns-4
+unfolding edition-0-1
 returns-4 c =
     let j = c .before in
     let i = j .before .before .before .before in

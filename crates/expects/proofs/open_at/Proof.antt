@@ -1,5 +1,5 @@
 -- `expects::open_at` meets its contract.
-use Rattle.expects.proofs.Tokens.{open-here}
+use Rattle.expects.proofs.Formats.{open-first}
 use borrow.Author.Needs.{needs}
 use Rattle.expects.proofs.open_at.Statement.{statement}
 use Rattle.expects.proofs.open_at.Tie as tie
@@ -11,13 +11,13 @@ add-end : tie.Need-add-end
 add-end c = search needs
 
 returns : tie.Need-returns
-returns c = open-here _ _ (search needs) (c .if2 .taken)
+returns c = open-first _ _ (search needs) (c .before .before .before .before .args .format) (c .if2 .taken)
 
-next-token-requires : tie.Need-next-token-requires
-next-token-requires c κs = search needs
+lex-requires : tie.Need-lex-requires
+lex-requires c κs = search needs
 
 returns-2 : tie.Need-returns-2
 returns-2 c = search needs
 
 pub open-at-spec : {M : Type 1} → statement M
-open-at-spec = tie.close (tie.spec shared-slice-read-if2 add-end returns next-token-requires returns-2)
+open-at-spec = tie.close (tie.spec shared-slice-read-if2 add-end returns lex-requires returns-2)

@@ -2,6 +2,7 @@
 use mathlib.Core.Path.{sym, _∙_, ap}
 use native.Mathlib.Omega.{arith}
 use Rattle.surface.specs.Reader.{refused}
+use Rattle.expects.specs.Formats.{edition}
 use Rattle.expects.proofs.Ahead.{atom-inside}
 use Rattle.expects.proofs.Tokens.{name-tested, name-refused}
 use borrow.Author.Needs.{needs}
@@ -20,19 +21,19 @@ enum-known-l-2 c = search needs
 sub-name-test : tie.Need-sub-name-test
 sub-name-test c =
     let k = c .before in
-    let h = atom-inside _ _ _ (k .before .before .next-atom .ensures) _ (k .l2 .given .1) in
+    let h = atom-inside (k .before .before .before .before .args .format) _ _ _ (k .before .before .next-atom .ensures) _ (k .l2 .given .1) in
     omega arith
 
 part-name-test-start : tie.Need-part-name-test-start
 part-name-test-start c =
     let k = c .before in
-    let h = atom-inside _ _ _ (k .before .before .next-atom .ensures) _ (k .l2 .given .1) in
+    let h = atom-inside (k .before .before .before .before .args .format) _ _ _ (k .before .before .next-atom .ensures) _ (k .l2 .given .1) in
     omega arith
 
 part-name-test-end : tie.Need-part-name-test-end
 part-name-test-end c =
     let k = c .before in
-    let h = atom-inside _ _ _ (k .before .before .next-atom .ensures) _ (k .l2 .given .1) in
+    let h = atom-inside (k .before .before .before .before .args .format) _ _ _ (k .before .before .next-atom .ensures) _ (k .l2 .given .1) in
     omega arith
 
 name-test-requires : tie.Need-name-test-requires
@@ -56,20 +57,20 @@ refused-at-requires-2 c κs = search needs
 returns : tie.Need-returns
 returns c =
     let k = c .before in
-    name-refused _ _ _ (k .before .before .next-atom .ensures) _ (k .l .given .1) _
+    name-refused (edition (k .before .before .before .before .args .format)) _ _ _ (k .before .before .next-atom .ensures) _ (k .l .given .1)
 
 returns-2 : tie.Need-returns-2
 returns-2 c =
     let g = c .before .before in
     let k = g .before .before .before in
-    name-tested _ _ _ (k .before .before .next-atom .ensures) _ (k .l2 .given .1) _ _ (sym (g .name-test .ensures) ∙ c .enum-told .given .1)
+    name-tested (edition (k .before .before .before .before .args .format)) _ _ _ (k .before .before .next-atom .ensures) _ (k .l2 .given .1) _ (sym (g .name-test .ensures) ∙ c .enum-told .given .1)
 
 returns-3 : tie.Need-returns-3
 returns-3 c =
     λ n.
     let g = c .before .before .before in
     let k = g .before .before .before in
-    name-tested _ _ _ (k .before .before .next-atom .ensures) _ (k .l2 .given .1) _ _ (sym (g .name-test .ensures) ∙ c .before .enum-told2 .given .1) n
+    name-tested (edition (k .before .before .before .before .args .format)) _ _ _ (k .before .before .next-atom .ensures) _ (k .l2 .given .1) _ (sym (g .name-test .ensures) ∙ c .before .enum-told2 .given .1) n
     ∙ ap refused (sym (c .refused-at .ensures))
 
 returns-4 : tie.Need-returns-4
@@ -77,7 +78,7 @@ returns-4 c =
     λ n.
     let g = c .before .before .before in
     let k = g .before .before .before in
-    name-tested _ _ _ (k .before .before .next-atom .ensures) _ (k .l2 .given .1) _ _ (sym (g .name-test .ensures) ∙ c .before .enum-told3 .given .1) n
+    name-tested (edition (k .before .before .before .before .args .format)) _ _ _ (k .before .before .next-atom .ensures) _ (k .l2 .given .1) _ (sym (g .name-test .ensures) ∙ c .before .enum-told3 .given .1) n
     ∙ ap refused (sym (c .refused-at2 .ensures))
 
 pub parse-identifier-spec : {M : Type 1} → statement M

@@ -1,6 +1,8 @@
 -- `expects::surface_line` meets its contract.
 use Rattle.expects.proofs.Ahead.{natural-inside, inside-got}
 use Rattle.expects.proofs.Lines.{surface-refused, major-refused, minor-refused, surface-got}
+use Rattle.terms.specs.Forms.{edition-0-1}
+use Rattle.expects.specs.declared.Format.{Format}
 use borrow.Author.Needs.{needs}
 use Rattle.expects.proofs.surface_line.Statement.{statement}
 use Rattle.expects.proofs.surface_line.Tie as tie
@@ -41,22 +43,25 @@ close-version-requires c κs =
     let i = j .before .before .before .before in
     let a = i .before .before .parse-natural in
     let b = j .before .before .parse-natural2 in (
-      inside-got _ _ _ (natural-inside _ _ (a .result) (a .ensures)) (i .m2 .given .1),
-      inside-got _ _ _ (natural-inside _ _ (b .result) (b .ensures)) (j .n2 .given .1),
+      inside-got _ _ _ (natural-inside Format.Surface01 _ _ (a .result) (a .ensures)) (i .m2 .given .1),
+      inside-got _ _ _ (natural-inside Format.Surface01 _ _ (b .result) (b .ensures)) (j .n2 .given .1),
     )
 
 returns : tie.Need-returns
+unfolding edition-0-1
 returns c =
     let k = c .before in
     surface-refused _ _ (k .before .before .expect-tag .ensures) _ (k .l .given .1)
 
 returns-2 : tie.Need-returns-2
+unfolding edition-0-1
 returns-2 c =
     let i = c .before in
     let k = i .before .before .before .before in
     major-refused _ _ (k .before .before .expect-tag .ensures) _ (k .l2 .given .1) _ (i .before .before .parse-natural .ensures) _ (i .m .given .1)
 
 returns-3 : tie.Need-returns-3
+unfolding edition-0-1
 returns-3 c =
     let j = c .before in
     let i = j .before .before .before .before in
@@ -65,6 +70,7 @@ returns-3 c =
     (j .before .before .parse-natural2 .ensures) _ (j .n .given .1)
 
 returns-4 : tie.Need-returns-4
+unfolding edition-0-1
 returns-4 c =
     let j = c .before .before in
     let i = j .before .before .before .before in

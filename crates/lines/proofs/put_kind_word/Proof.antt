@@ -1,6 +1,7 @@
 -- `lines::put_kind_word` meets its contract.
 use borrow.Author.Needs.{needs}
-use Rattle.lines.specs.KindWords.{words}
+use Rattle.kind_words.specs.KindWords.{words, word-of-kind}
+use Rattle.lines.specs.Listing.{kind-word}
 use Rattle.lines.proofs.put_kind_word.Statement.{statement}
 use Rattle.lines.proofs.put_kind_word.Tie as tie
 
@@ -23,7 +24,7 @@ same-length : tie.Need-same-length
 same-length c = search needs
 
 returns : tie.Need-returns
-unfolding words
+unfolding words word-of-kind kind-word
 returns c = rw (← c .before .before .before .before .before .before .before .kind-at .ensures .0) (c .before .before .put-part .ensures)
 
 pub put-kind-word-spec : {M : Type 1} → statement M

@@ -2,7 +2,7 @@
 use mathlib.Core.Path.{sym, _∙_, ap}
 use Rattle.parser.specs.TermRows.{refused}
 use Rattle.parser.specs.Machine.{pushed-row}
-use Rattle.parser.proofs.Readers.{surface-sound}
+use Rattle.parser.proofs.Readers.{setting-sound}
 use Rattle.parser.proofs.Steps.{refused-step, leaf-step, open-step, deep-step}
 use borrow.Author.Needs.{needs}
 use Rattle.parser.proofs.term_step.Statement.{statement}
@@ -17,8 +17,8 @@ enum-known-begun c = search needs
 enum-known-begun-2 : tie.Need-enum-known-begun-2
 enum-known-begun-2 c = search needs
 
-surface-row-requires : tie.Need-surface-row-requires
-surface-row-requires c κs = search needs
+term-row-requires : tie.Need-term-row-requires
+term-row-requires c κs = search needs
 
 push-term-requires : tie.Need-push-term-requires
 push-term-requires c κs = search needs
@@ -39,7 +39,7 @@ returns : tie.Need-returns
 returns c =
     let o = c .before .before .before .before .before .before .before .before .before .before .before .before in
     let k = c .before .before .open-frame in
-    open-step (o .args .s .now) _ (surface-sound (o .args .format) (o .args .s .now) (o .args .limit)) (o .args .table .now) (o .args .work .now) (o .args .st) (o .pre .0) _ (o .pre .1) (c .before .before .before .before .before .before .before .before .begin-term .ensures (o .pre .0 .source)) _ _ _
+    open-step (o .args .s .now) _ (setting-sound (o .args .format) (o .args .s .now) (o .args .limit)) (o .args .table .now) (o .args .work .now) (o .args .st) (o .pre .0) _ (o .pre .1) (c .before .before .before .before .before .before .before .before .begin-term .ensures (o .pre .0 .source)) _ _ _
     (c .before .before .before .before .before .before .begun3 .given .1) (c .before .before .before .before .if1 .taken) (k .ensures) (k .kept .0)
 
 refused-nowhere-requires : tie.Need-refused-nowhere-requires
@@ -48,7 +48,7 @@ refused-nowhere-requires c κs = search needs
 returns-2 : tie.Need-returns-2
 returns-2 c =
     let o = c .before .before .before .before .before .before .before in
-    refused-step (o .args .s .now) _ (surface-sound (o .args .format) (o .args .s .now) (o .args .limit)) (o .args .table .now) (o .args .work .now) (o .args .st) (o .pre .0) _ (o .pre .1) (c .before .before .before .begin-term .ensures (o .pre .0 .source)) _ (c .before .begun .given .1)
+    refused-step (o .args .s .now) _ (setting-sound (o .args .format) (o .args .s .now) (o .args .limit)) (o .args .table .now) (o .args .work .now) (o .args .st) (o .pre .0) _ (o .pre .1) (c .before .before .before .begin-term .ensures (o .pre .0 .source)) _ (c .before .begun .given .1)
 
 same-length-2 : tie.Need-same-length-2
 same-length-2 c = search needs
@@ -57,13 +57,13 @@ returns-3 : tie.Need-returns-3
 returns-3 c =
     let o = c .before .before .before .before .before .before .before .before .before .before .before .before in
     let k = c .before .before .push-term in
-    leaf-step (o .args .s .now) _ (surface-sound (o .args .format) (o .args .s .now) (o .args .limit)) (o .args .table .now) (o .args .work .now) (o .args .st) (o .pre .0) _ (o .pre .1) (c .before .before .before .before .before .before .before .before .begin-term .ensures (o .pre .0 .source)) _ _ _ _
-    (c .before .before .before .before .before .before .begun2 .given .1) (k .ensures .0) (k .ensures .1 ∙ ap (pushed-row (o .args .limit) (o .args .table .now) (o .args .st .rows)) (c .before .before .before .before .surface-row .ensures))
+    leaf-step (o .args .s .now) _ (setting-sound (o .args .format) (o .args .s .now) (o .args .limit)) (o .args .table .now) (o .args .work .now) (o .args .st) (o .pre .0) _ (o .pre .1) (c .before .before .before .before .before .before .before .before .begin-term .ensures (o .pre .0 .source)) _ _ _ _
+    (c .before .before .before .before .before .before .begun2 .given .1) (k .ensures .0) (k .ensures .1 ∙ ap (pushed-row (o .args .limit) (o .args .table .now) (o .args .st .rows)) (c .before .before .before .before .term-row .ensures))
 
 returns-4 : tie.Need-returns-4
 returns-4 c =
     let o = c .before .before .before .before .before .before .before .before .before in
-    deep-step (o .args .s .now) _ (surface-sound (o .args .format) (o .args .s .now) (o .args .limit)) (o .args .table .now) (o .args .work .now) (o .args .st) (o .pre .0) _ (o .pre .1) (c .before .before .before .before .before .begin-term .ensures (o .pre .0 .source)) _ _
+    deep-step (o .args .s .now) _ (setting-sound (o .args .format) (o .args .s .now) (o .args .limit)) (o .args .table .now) (o .args .work .now) (o .args .st) (o .pre .0) _ (o .pre .1) (c .before .before .before .before .before .begin-term .ensures (o .pre .0 .source)) _ _
     (c .before .before .before .begun3 .given .1) (c .before .if1 .left) ∙ ap refused (sym (c .refused-nowhere .ensures))
 
 pub term-step-spec : {M : Type 1} → statement M
@@ -73,7 +73,7 @@ term-step-spec =
     begin-term-requires
     enum-known-begun
     enum-known-begun-2
-    surface-row-requires
+    term-row-requires
     push-term-requires
     enum-known-begun-3
     open-frame-requires

@@ -4,7 +4,7 @@ use Prim.Native.Nat.{suc, _-_}
 use native.Mathlib.Omega.{arith}
 use Rattle.terms.specs.Forms.{arity-of}
 use Rattle.parser.specs.Machine.{pushed-row}
-use Rattle.parser.proofs.Readers.{surface-sound}
+use Rattle.parser.proofs.Readers.{setting-sound}
 use Rattle.parser.proofs.Steps.{room, takes, more-step, unclosed-step, close-step}
 use borrow.Author.Needs.{needs}
 use Rattle.parser.proofs.value_step.Statement.{statement}
@@ -19,7 +19,7 @@ push-arg-requires c κs =
     let a = o .args in
     let d = a .st .depth - 1 in
     let deep : a .st .depth ≡ suc d = omega (arith, o .pre .1 .1) in
-    (room (a .s .now) _ (surface-sound (a .format) (a .s .now) (a .limit)) (a .table .now) (a .work .now) (a .st) (o .pre .0) d (o .pre .1 .0) deep, takes (a .s .now) _ (surface-sound (a .format) (a .s .now) (a .limit)) (a .table .now) (a .work .now) (a .st) (o .pre .0) d (o .pre .1 .0) deep)
+    (room (a .s .now) _ (setting-sound (a .format) (a .s .now) (a .limit)) (a .table .now) (a .work .now) (a .st) (o .pre .0) d (o .pre .1 .0) deep, takes (a .s .now) _ (setting-sound (a .format) (a .s .now) (a .limit)) (a .table .now) (a .work .now) (a .st) (o .pre .0) d (o .pre .1 .0) deep)
 
 frame-len-requires : tie.Need-frame-len-requires
 frame-len-requires c κs = search needs
@@ -42,7 +42,7 @@ returns c =
     let d = a .st .depth - 1 in
     let deep : a .st .depth ≡ suc d = omega (arith, o .pre .1 .1) in
     let kinds = y .arity .ensures ∙ ap arity-of (y .before .frame-kind .ensures) in
-    more-step (a .s .now) _ (surface-sound (a .format) (a .s .now) (a .limit)) (a .table .now) (a .work .now) (a .st) (o .pre .0) d (o .pre .1 .0) deep _ (k .ensures) (omega (arith, y .before .before .before .frame-len .ensures, kinds, c .if1 .taken)) (k .kept .0)
+    more-step (a .s .now) _ (setting-sound (a .format) (a .s .now) (a .limit)) (a .table .now) (a .work .now) (a .st) (o .pre .0) d (o .pre .1 .0) deep _ (k .ensures) (omega (arith, y .before .before .before .frame-len .ensures, kinds, c .if1 .taken)) (k .kept .0)
 
 expect-rparen-requires : tie.Need-expect-rparen-requires
 expect-rparen-requires c κs = search needs
@@ -56,8 +56,8 @@ enum-known-close-2 c = search needs
 load-frame-requires : tie.Need-load-frame-requires
 load-frame-requires c κs = search needs
 
-surface-row-requires : tie.Need-surface-row-requires
-surface-row-requires c κs = search needs
+term-row-requires : tie.Need-term-row-requires
+term-row-requires c κs = search needs
 
 push-term-requires : tie.Need-push-term-requires
 push-term-requires c κs =
@@ -76,7 +76,7 @@ returns-2 c =
     let d = a .st .depth - 1 in
     let deep : a .st .depth ≡ suc d = omega (arith, o .pre .1 .1) in
     let kinds = y .arity .ensures ∙ ap arity-of (y .before .frame-kind .ensures) in
-    unclosed-step (a .s .now) _ (surface-sound (a .format) (a .s .now) (a .limit)) (a .table .now) (a .work .now) (a .st) (o .pre .0) d (o .pre .1 .0) deep _ (k .ensures) (omega (arith, y .before .before .before .frame-len .ensures, kinds, c .before .before .before .before .if1 .left)) _ (c .before .before .before .expect-rparen .ensures) _ (c .before .close .given .1)
+    unclosed-step (a .s .now) _ (setting-sound (a .format) (a .s .now) (a .limit)) (a .table .now) (a .work .now) (a .st) (o .pre .0) d (o .pre .1 .0) deep _ (k .ensures) (omega (arith, y .before .before .before .frame-len .ensures, kinds, c .before .before .before .before .if1 .left)) _ (c .before .before .before .expect-rparen .ensures) _ (c .before .close .given .1)
 
 same-length-3 : tie.Need-same-length-3
 same-length-3 c = search needs
@@ -94,9 +94,9 @@ returns-3 c =
     let deep : a .st .depth ≡ suc d = omega (arith, o .pre .1 .1) in
     let kinds = y .arity .ensures ∙ ap arity-of (y .before .frame-kind .ensures) in
     let p = c .before .before .push-term in
-    close-step (a .s .now) _ (surface-sound (a .format) (a .s .now) (a .limit)) (a .table .now) (a .work .now) (a .st) (o .pre .0) d (o .pre .1 .0) deep _ (k .ensures) (omega (arith, y .before .before .before .frame-len .ensures, kinds, c .before .before .before .before .before .before .before .before .before .before .before .before .before .if1 .left)) _ (c .before .before .before .before .before .before .before .before .before .before .before .before .expect-rparen .ensures) _ _ _ _
+    close-step (a .s .now) _ (setting-sound (a .format) (a .s .now) (a .limit)) (a .table .now) (a .work .now) (a .st) (o .pre .0) d (o .pre .1 .0) deep _ (k .ensures) (omega (arith, y .before .before .before .frame-len .ensures, kinds, c .before .before .before .before .before .before .before .before .before .before .before .before .before .if1 .left)) _ (c .before .before .before .before .before .before .before .before .before .before .before .before .expect-rparen .ensures) _ _ _ _
     (c .before .before .before .before .before .before .before .before .before .before .close2 .given .1) (c .before .before .before .before .before .before .before .load-frame .ensures) (k .kept .0) (p .ensures .0)
-    (p .ensures .1 ∙ ap (pushed-row (a .limit) (a .table .now) (a .st .rows)) (c .before .before .before .before .surface-row .ensures))
+    (p .ensures .1 ∙ ap (pushed-row (a .limit) (a .table .now) (a .st .rows)) (c .before .before .before .before .term-row .ensures))
 
 pub value-step-spec : {M : Type 1} → statement M
 value-step-spec =
@@ -113,7 +113,7 @@ value-step-spec =
     enum-known-close
     enum-known-close-2
     load-frame-requires
-    surface-row-requires
+    term-row-requires
     push-term-requires
     same-length-2
     returns-2

@@ -1,4 +1,5 @@
 -- `reader::next_declaration` meets its contract.
+use mathlib.Core.Path.{sym, _∙_}
 use mathlib.Core.List.{[], _∷_}
 use Prim.Native.Nat.{_-_}
 use native.Mathlib.Omega.{arith}
@@ -20,9 +21,6 @@ enum-known-l-2 c = search needs
 enum-told : tie.Need-enum-told
 enum-told c = search needs
 
-enum-told-2 : tie.Need-enum-told-2
-enum-told-2 c = search needs
-
 refused-nowhere-requires : tie.Need-refused-nowhere-requires
 refused-nowhere-requires c κs = search needs
 
@@ -33,7 +31,7 @@ returns c =
     let i = x .before .before in
     let a = i .before .before .before .before .before .args in (
       λ w few. next-full (a .format) (a .s .now) (a .limits .rows) (a .at) (a .rows) (a .limits .declarations - a .k) (i .next-token .result) (i .next-token .ensures)
-          (x .l2 .given .0 .0) (x .l2 .given .1) (f .before .before .enum-told2 .given .1) (omega arith) _ (c .refused-nowhere .ensures),
+          (x .l2 .given .0 .0) (x .l2 .given .1) (f .before .before .enum-told .given .1) (omega arith) _ (c .refused-nowhere .ensures),
       tt,
     )
 
@@ -46,25 +44,29 @@ enum-known-d c = search needs
 enum-known-d-2 : tie.Need-enum-known-d-2
 enum-known-d-2 c = search needs
 
-refused-at-requires : tie.Need-refused-at-requires
-refused-at-requires c κs = search needs
+is-ending-requires : tie.Need-is-ending-requires
+is-ending-requires c κs = search needs
 
 returns-2 : tie.Need-returns-2
 returns-2 c =
+    let g = c .before in
+    let x = g .before .before .before in
+    let i = x .before .before in
+    let a = i .before .before .before .before .before .args in (
+      λ w few. ends-here (a .format) (a .limits) (a .s .now) (a .table .now) (a .list .now) (a .at) (a .rows) (a .k) (i .next-token .result) (i .next-token .ensures)
+          (x .l2 .given .0 .0) (x .l2 .given .1) (λ q. miss (1 ∷ 2 ∷ 3 ∷ 4 ∷ []) 0 tt (rw q at (g .before .match2 .keys2))) (sym (g .is-ending .ensures) ∙ c .if2 .taken),
+      tt,
+    )
+
+refused-at-requires : tie.Need-refused-at-requires
+refused-at-requires c κs = search needs
+
+returns-3 : tie.Need-returns-3
+returns-3 c =
     let x = c .before in
     let i = x .before .before in
     let a = i .before .before .before .before .before .args in
     (λ w few. next-refused (a .format) (a .s .now) (a .limits .rows) (a .at) (a .rows) (a .limits .declarations - a .k) (i .next-token .result) (i .next-token .ensures) _ (x .l .given .1), tt)
-
-returns-3 : tie.Need-returns-3
-returns-3 c =
-    let x = c .before .before .before in
-    let i = x .before .before in
-    let a = i .before .before .before .before .before .args in (
-      λ w few. ends-here (a .format) (a .limits) (a .s .now) (a .table .now) (a .list .now) (a .at) (a .rows) (a .k) (i .next-token .result) (i .next-token .ensures)
-          (x .l2 .given .0 .0) (x .l2 .given .1) (c .enum-told .given .1),
-      tt,
-    )
 
 same-length : tie.Need-same-length
 same-length c = search needs
@@ -84,7 +86,7 @@ returns-4 c =
     let i = x .before .before in
     let a = i .before .before .before .before .before .args in (
       λ w few. declaration-stops (a .format) (a .limits) (a .s .now) (a .table .now) (a .list .now) (a .at) (a .rows) (a .k) (a .work .now) (d .read-declaration .last .1 .1 .1 .0) w (omega arith)
-          (i .next-token .result) (i .next-token .ensures) (x .l2 .given .0 .0) (x .l2 .given .1) (f .before .before .enum-told2 .given .1)
+          (i .next-token .result) (i .next-token .ensures) (x .l2 .given .0 .0) (x .l2 .given .1) (f .before .before .enum-told .given .1)
           (d .read-declaration .result) (d .read-declaration .last .1 .0) (d .read-declaration .last .1 .1 .0)
           (d .read-declaration .kept .1 .0) (d .read-declaration .kept .1 .1 .0) (d .read-declaration .kept .1 .1 .1 .0)
           (d .read-declaration .ensures) _ (y .d .given .1),
@@ -109,7 +111,7 @@ returns-5 c =
     let i = x .before .before in
     let a = i .before .before .before .before .before .args in (
       λ w few. went (a .format) (a .limits) (a .s .now) (a .table .now) (a .list .now) (a .at) (a .rows) (a .k) (a .work .now) (d .read-declaration .last .1 .1 .1 .0) w (omega arith)
-          (i .next-token .result) (i .next-token .ensures) (x .l2 .given .0 .0) (x .l2 .given .1) (f .before .before .enum-told2 .given .1)
+          (i .next-token .result) (i .next-token .ensures) (x .l2 .given .0 .0) (x .l2 .given .1) (f .before .before .enum-told .given .1)
           (d .read-declaration .result) (d .read-declaration .last .1 .0) (d .read-declaration .last .1 .1 .0)
           (d .read-declaration .kept .1 .0) (d .read-declaration .kept .1 .1 .0) (d .read-declaration .kept .1 .1 .1 .0)
           (d .read-declaration .ensures) _ _ (y .d2 .given .1),
@@ -118,13 +120,13 @@ returns-5 c =
 
 returns-6 : tie.Need-returns-6
 returns-6 c =
-    let x = c .before .before .before in
+    let f = c .before in
+    let g = f .before in
+    let x = g .before .before .before in
     let i = x .before .before in
     let a = i .before .before .before .before .before .args in (
       λ w few. next-other (a .format) (a .s .now) (a .limits .rows) (a .at) (a .rows) (a .limits .declarations - a .k) (i .next-token .result) (i .next-token .ensures)
-          (x .l2 .given .0 .0) (x .l2 .given .1)
-          (λ q. miss (1 ∷ 2 ∷ []) 0 tt (rw q at (c .before .match2 .keys3)))
-          (λ q. miss (1 ∷ 2 ∷ []) 3 tt (rw q at (c .before .match2 .keys3))) _ (c .refused-at .ensures),
+          (x .l2 .given .0 .0) (x .l2 .given .1) (λ q. miss (1 ∷ 2 ∷ 3 ∷ 4 ∷ []) 0 tt (rw q at (g .before .match2 .keys2))) (sym (g .is-ending .ensures) ∙ f .if2 .left) _ (c .refused-at .ensures),
       tt,
     )
 
@@ -136,14 +138,14 @@ next-declaration-spec =
     enum-known-l
     enum-known-l-2
     enum-told
-    enum-told-2
     refused-nowhere-requires
     returns
     read-declaration-requires
     enum-known-d
     enum-known-d-2
-    refused-at-requires
+    is-ending-requires
     returns-2
+    refused-at-requires
     returns-3
     same-length
     same-length-2

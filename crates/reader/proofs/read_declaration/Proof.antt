@@ -19,19 +19,22 @@ enum-known-l-2 c = search needs
 sub-declaration-kind : tie.Need-sub-declaration-kind
 sub-declaration-kind c =
     let x = c .before in
-    let h = atom-inside _ _ _ (x .before .before .next-atom .ensures) _ (x .l2 .given .1) in
+    let a = x .before .before .before .before .before .before .before .args in
+    let h = atom-inside (a .format) (a .s .now) (a .at) _ (x .before .before .next-atom .ensures) _ (x .l2 .given .1) in
     omega arith
 
 part-declaration-kind-start : tie.Need-part-declaration-kind-start
 part-declaration-kind-start c =
     let x = c .before in
-    let h = atom-inside _ _ _ (x .before .before .next-atom .ensures) _ (x .l2 .given .1) in
+    let a = x .before .before .before .before .before .before .before .args in
+    let h = atom-inside (a .format) (a .s .now) (a .at) _ (x .before .before .next-atom .ensures) _ (x .l2 .given .1) in
     omega arith
 
 part-declaration-kind-end : tie.Need-part-declaration-kind-end
 part-declaration-kind-end c =
     let x = c .before in
-    let h = atom-inside _ _ _ (x .before .before .next-atom .ensures) _ (x .l2 .given .1) in
+    let a = x .before .before .before .before .before .before .before .args in
+    let h = atom-inside (a .format) (a .s .now) (a .at) _ (x .before .before .next-atom .ensures) _ (x .l2 .given .1) in
     omega arith
 
 declaration-kind-requires : tie.Need-declaration-kind-requires
@@ -47,7 +50,7 @@ returns c =
     let i = x .before .before in
     let a = i .before .before .before .before .before .args in
     λ w room.
-    stops _ _ _ _ _ _ _ _ _
+    stops (a .format) _ _ _ _ _ _ _ _ _
     (other-word (a .format) (a .s .now) _ (a .at) (a .rows) (i .next-atom .result) (i .next-atom .ensures) (x .l2 .given .0 .0) (x .l2 .given .1)
     (d .declaration-kind .result) (d .declaration-kind .ensures) (c .before .if1 .taken) _ (c .refused-at .ensures))
 
@@ -60,7 +63,7 @@ returns-2 c =
     let i = x .before .before in
     let a = i .before .before .before .before .before .args in
     λ w room.
-    stops _ _ _ _ _ _ _ _ _ (word-refused (a .format) (a .s .now) _ (a .at) (a .rows) (i .next-atom .result) (i .next-atom .ensures) _ (x .l .given .1))
+    stops (a .format) _ _ _ _ _ _ _ _ _ (word-refused (a .format) (a .s .now) _ (a .at) (a .rows) (i .next-atom .result) (i .next-atom .ensures) _ (x .l .given .1))
 
 same-length : tie.Need-same-length
 same-length c = search needs
@@ -84,7 +87,7 @@ returns-3 c =
     (d .declaration-kind .result) (d .declaration-kind .ensures) (f .if1 .left) (a .limits) (a .k) (a .table .now) (a .list .now) (g .read-named .result)
     (g .read-named .last .1 .0) (g .read-named .last .1 .1 .0)
     (g .read-named .ensures
-    (behind-word (a .limits .rows) (a .s .now) (a .work .now) (a .at) (a .rows) (i .next-atom .result) (i .next-atom .ensures) (x .l2 .given .0 .0)
+    (behind-word (a .format) (a .limits .rows) (a .s .now) (a .work .now) (a .at) (a .rows) (i .next-atom .result) (i .next-atom .ensures) (x .l2 .given .0 .0)
     (x .l2 .given .1) w) room)
 
 pub read-declaration-spec : {M : Type 1} → statement M

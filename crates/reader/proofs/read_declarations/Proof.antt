@@ -48,35 +48,35 @@ returns c =
     stopped (a .format) (a .limits) (a .s .now) (a .table .now) (a .list .now) (a .work .now) (a .from) (l .table) (l .list) (l .work) (l .at) (l .rows) (l .k) (l .inv)
     (d .result) (d .last .1 .0) (d .last .1 .1 .0) (d .last .1 .1 .1 .0) (d .ensures .0) _ (c .before .step .given .1)
 
-enum-told : tie.Need-enum-told Inv-loop μ-loop
-enum-told c = search needs
+enum-known-step-2 : tie.Need-enum-known-step-2 Inv-loop μ-loop
+enum-known-step-2 c = search needs
 
 same-length-4 : tie.Need-same-length-4 Inv-loop μ-loop
 same-length-4 c =
-    let d = c .before .before .before .before .before .before .before .before in
+    let d = c .before .before .before .before .before .before .before .before .before in
     d .next-declaration .kept .1 .0 ∙ d .before .before .before .before .loop .inv .table-long
 
 same-length-5 : tie.Need-same-length-5 Inv-loop μ-loop
 same-length-5 c =
-    let d = c .before .before .before .before .before .before .before .before in
+    let d = c .before .before .before .before .before .before .before .before .before in
     d .next-declaration .kept .1 .1 .0 ∙ d .before .before .before .before .loop .inv .list-long
 
 same-length-6 : tie.Need-same-length-6 Inv-loop μ-loop
 same-length-6 c =
-    let d = c .before .before .before .before .before .before .before .before in
+    let d = c .before .before .before .before .before .before .before .before .before in
     d .next-declaration .kept .1 .1 .1 .0 ∙ d .before .before .before .before .loop .inv .work-long
 
 returns-2 : tie.Need-returns-2 Inv-loop μ-loop
 returns-2 c =
-    let m = c .before .before .before .before .before .before .before .before in
+    let m = c .before .before .before .before .before .before .before .before .before in
     let d = m .next-declaration in
     let l = m .before .before .before .before .loop in
     let a = m .before .before .before .before .before .before .before .before .before .args in
     ended (a .format) (a .limits) (a .s .now) (a .table .now) (a .list .now) (a .work .now) (a .from) (l .table) (l .list) (l .work) (l .at) (l .rows) (l .k) (l .inv)
-    (d .result) (d .last .1 .0) (d .last .1 .1 .0) (d .last .1 .1 .1 .0) (d .ensures .0) (c .enum-told .given .1)
+    (d .result) (d .last .1 .0) (d .last .1 .1 .0) (d .last .1 .1 .1 .0) (d .ensures .0) _ (c .before .step2 .given .1)
 
-enum-known-step-2 : tie.Need-enum-known-step-2 Inv-loop μ-loop
-enum-known-step-2 c = search needs
+enum-known-step-3 : tie.Need-enum-known-step-3 Inv-loop μ-loop
+enum-known-step-3 c = search needs
 
 add-k : tie.Need-add-k Inv-loop μ-loop
 add-k c =
@@ -85,7 +85,7 @@ add-k c =
     let l = m .before .before .before .before .loop in
     let a = m .before .before .before .before .before .before .before .before .before .args in
     let h = roomy (a .format) (a .limits) (a .s .now) (a .table .now) (a .list .now) (a .work .now) (a .from) (l .table) (l .list) (l .work) (l .at) (l .rows) (l .k) (l .inv)
-    (d .result) (d .last .1 .0) (d .last .1 .1 .0) (d .last .1 .1 .1 .0) (d .ensures .0) (d .ensures .1) _ _ (c .before .step2 .given .1) in
+    (d .result) (d .last .1 .0) (d .last .1 .1 .0) (d .last .1 .1 .1 .0) (d .ensures .0) (d .ensures .1) _ _ (c .before .step3 .given .1) in
     omega (arith, l .inv .list-long, m .before .before .before .before .before .before .before .before .before .good)
 
 loop-less : tie.Need-loop-less Inv-loop μ-loop
@@ -95,7 +95,7 @@ loop-less c =
     let l = m .before .before .before .before .loop in
     let a = m .before .before .before .before .before .before .before .before .before .args in
     let h = roomy (a .format) (a .limits) (a .s .now) (a .table .now) (a .list .now) (a .work .now) (a .from) (l .table) (l .list) (l .work) (l .at) (l .rows) (l .k) (l .inv)
-    (d .result) (d .last .1 .0) (d .last .1 .1 .0) (d .last .1 .1 .1 .0) (d .ensures .0) (d .ensures .1) _ _ (c .before .step2 .given .1) in
+    (d .result) (d .last .1 .0) (d .last .1 .1 .0) (d .last .1 .1 .1 .0) (d .ensures .0) (d .ensures .1) _ _ (c .before .step3 .given .1) in
     omega (arith, l .inv .list-long)
 
 loop-again : tie.Need-loop-again Inv-loop μ-loop
@@ -106,7 +106,7 @@ loop-again c =
     let a = m .before .before .before .before .before .before .before .before .before .args in
     next (a .format) (a .limits) (a .s .now) (a .table .now) (a .list .now) (a .work .now) (a .from) (l .table) (l .list) (l .work) (l .at) (l .rows) (l .k) (l .inv)
     (d .result) (d .last .1 .0) (d .last .1 .1 .0) (d .last .1 .1 .1 .0) (d .ensures .0)
-    (d .ensures .1) (d .kept .1 .0) (d .kept .1 .1 .0) (d .kept .1 .1 .1 .0) _ _ (c .before .step2 .given .1)
+    (d .ensures .1) (d .kept .1 .0) (d .kept .1 .1 .0) (d .kept .1 .1 .1 .0) _ _ (c .before .step3 .given .1)
 
 pub read-declarations-spec : {M : Type 1} → statement M
 read-declarations-spec =
@@ -121,12 +121,12 @@ read-declarations-spec =
     same-length-2
     same-length-3
     returns
-    enum-told
+    enum-known-step-2
     same-length-4
     same-length-5
     same-length-6
     returns-2
-    enum-known-step-2
+    enum-known-step-3
     add-k
     loop-less
     loop-again)

@@ -5,14 +5,14 @@ use borrow.Author.Needs.{needs}
 use Rattle.reader.proofs.read_named.Statement.{statement}
 use Rattle.reader.proofs.read_named.Tie as tie
 
-parse-identifier-requires : tie.Need-parse-identifier-requires
-parse-identifier-requires c κs = search needs
+parse-name-requires : tie.Need-parse-name-requires
+parse-name-requires c κs = search needs
 
-enum-known-l : tie.Need-enum-known-l
-enum-known-l c = search needs
+enum-known-x : tie.Need-enum-known-x
+enum-known-x c = search needs
 
-enum-known-l-2 : tie.Need-enum-known-l-2
-enum-known-l-2 c = search needs
+enum-known-x-2 : tie.Need-enum-known-x-2
+enum-known-x-2 c = search needs
 
 read-term-requires : tie.Need-read-term-requires
 read-term-requires c κs = search needs
@@ -36,7 +36,7 @@ declaration-record-requires : tie.Need-declaration-record-requires
 declaration-record-requires c κs =
     let x = c .before .before .before .before .before .before .before .before .before .before .before .before .before .before .before .before .before .before .before .before .before in
     let i = x .before .before in
-    name-order (i .before .before .before .before .before .args .format) _ _ (i .parse-identifier .result) (i .parse-identifier .ensures) _ (x .l2 .given .1)
+    name-order (i .before .before .before .before .before .args .format) _ _ (i .parse-name .result) (i .parse-name .ensures) _ _ (x .x2 .given .1)
 
 finish-declaration-requires : tie.Need-finish-declaration-requires
 finish-declaration-requires c κs = search needs
@@ -47,7 +47,7 @@ returns c =
     let i = x .before .before in
     let a = i .before .before .before .before .before .args in
     λ w room t j is.
-    stops _ _ _ _ _ _ _ _ _ (name-refused (a .format) (a .s .now) _ t j (a .at) (a .rows) (i .parse-identifier .result) (i .parse-identifier .ensures) _ (x .l .given .1))
+    stops (a .format) _ _ _ _ _ _ _ _ _ (name-refused (a .format) (a .s .now) _ t j (a .at) (a .rows) (i .parse-name .result) (i .parse-name .ensures) _ (x .x .given .1))
 
 same-length : tie.Need-same-length
 same-length c = search needs
@@ -64,7 +64,7 @@ returns-2 c =
     let a = i .before .before .before .before .before .args in
     λ w room t j is.
     type-stops (a .format) (a .limits) (a .s .now) (a .table .now) (a .list .now) (a .work .now) (a .at) (a .rows) (a .k) t j (a .kind) w room is
-    (i .parse-identifier .result) (i .parse-identifier .ensures) (x .l2 .given .0 .0) (x .l2 .given .1)
+    (i .parse-name .result) (i .parse-name .ensures) _ _ (x .x2 .given .1)
     (g .read-term .result) (g .read-term .last .1 .0) (g .read-term .last .1 .1 .0) (g .read-term .kept .1 .0) (g .read-term .kept .1 .1 .0) (g .read-term .ensures)
     _ (y .ty .given .1) _
 
@@ -85,7 +85,7 @@ returns-3 c =
     let a = i .before .before .before .before .before .args in
     λ w room t j is.
     body-stops (a .format) (a .limits) (a .s .now) (a .table .now) (a .list .now) (a .work .now) (a .at) (a .rows) (a .k) t j (a .kind) w room is
-    (i .parse-identifier .result) (i .parse-identifier .ensures) (x .l2 .given .0 .0) (x .l2 .given .1)
+    (i .parse-name .result) (i .parse-name .ensures) _ _ (x .x2 .given .1)
     (g .read-term .result) (g .read-term .last .1 .0) (g .read-term .last .1 .1 .0) (g .read-term .kept .1 .0) (g .read-term .kept .1 .1 .0) (g .read-term .ensures)
     _ _ _ (y .ty2 .given .1) (f .read-body .result) (f .read-body .last .1 .0) (f .read-body .ensures) _ (z .body .given .1) _
 
@@ -111,7 +111,7 @@ returns-4 c =
     let a = i .before .before .before .before .before .args in
     λ w room t j is.
     ends (a .format) (a .limits) (a .s .now) (a .table .now) (a .list .now) (a .work .now) (a .at) (a .rows) (a .k) t j (a .kind) w room is
-    (i .parse-identifier .result) (i .parse-identifier .ensures) (x .l2 .given .0 .0) (x .l2 .given .1)
+    (i .parse-name .result) (i .parse-name .ensures) _ _ (x .x2 .given .1)
     (g .read-term .result) (g .read-term .last .1 .0) (g .read-term .last .1 .1 .0) (g .read-term .kept .1 .0) (g .read-term .kept .1 .1 .0) (g .read-term .ensures)
     _ _ _ (y .ty2 .given .1) (f .read-body .result) (f .read-body .last .1 .0) (f .read-body .ensures)
     _ _ _ (z .body2 .given .1) _ (d .declaration-record .ensures) _ _ (e .finish-declaration .ensures)
@@ -120,9 +120,9 @@ pub read-named-spec : {M : Type 1} → statement M
 read-named-spec =
     tie.close
     (tie.spec
-    parse-identifier-requires
-    enum-known-l
-    enum-known-l-2
+    parse-name-requires
+    enum-known-x
+    enum-known-x-2
     read-term-requires
     enum-known-ty
     enum-known-ty-2

@@ -1,5 +1,5 @@
 -- `reader::read_within` meets its contract.
-use Rattle.reader.proofs.Modules.{head-refused, head-got}
+use Rattle.reader.proofs.Modules.{head-refused, module-refused, module-done}
 use borrow.Author.Needs.{needs}
 use Rattle.reader.proofs.read_within.Statement.{statement}
 use Rattle.reader.proofs.read_within.Tie as tie
@@ -15,6 +15,12 @@ enum-known-h-2 c = search needs
 
 read-declarations-requires : tie.Need-read-declarations-requires
 read-declarations-requires c κs = search needs
+
+enum-known-d : tie.Need-enum-known-d
+enum-known-d c = search needs
+
+enum-known-d-2 : tie.Need-enum-known-d-2
+enum-known-d-2 c = search needs
 
 returns : tie.Need-returns
 returns c =
@@ -34,13 +40,34 @@ same-length-3 c = search needs
 
 returns-2 : tie.Need-returns-2
 returns-2 c =
-    let d = c .before .before .before .before .before .before in
+    let y = c .before in
+    let d = y .before .before .before .before .before .before .before .before in
     let x = d .before .before .before .before .before in
     let i = x .before .before in
     let a = i .before .before .before .before .before .args in
     λ short wide.
-    head-got (a .limits) (a .s .now) (a .table .now) (a .list .now) (i .read-head .result) (i .read-head .ensures) _ _ _ (x .h2 .given .1) (a .work .now) short wide
-    (d .read-declarations .result) (d .read-declarations .last .1 .0) (d .read-declarations .last .1 .1 .0) (d .read-declarations .ensures)
+    module-refused (a .limits) (a .s .now) (a .table .now) (a .list .now) (i .read-head .result) (i .read-head .ensures) _ _ _ (x .h2 .given .1) (a .work .now) short wide
+    (d .read-declarations .result) (d .read-declarations .last .1 .0) (d .read-declarations .last .1 .1 .0) (d .read-declarations .ensures) _ (y .d .given .1)
+
+same-length-4 : tie.Need-same-length-4
+same-length-4 c = search needs
+
+same-length-5 : tie.Need-same-length-5
+same-length-5 c = search needs
+
+same-length-6 : tie.Need-same-length-6
+same-length-6 c = search needs
+
+returns-3 : tie.Need-returns-3
+returns-3 c =
+    let y = c .before in
+    let d = y .before .before .before .before .before .before .before .before in
+    let x = d .before .before .before .before .before in
+    let i = x .before .before in
+    let a = i .before .before .before .before .before .args in
+    λ short wide.
+    module-done (a .limits) (a .s .now) (a .table .now) (a .list .now) (i .read-head .result) (i .read-head .ensures) _ _ _ (x .h2 .given .1) (a .work .now) short wide
+    (d .read-declarations .result) (d .read-declarations .last .1 .0) (d .read-declarations .last .1 .1 .0) (d .read-declarations .ensures) _ _ _ (y .d2 .given .1)
 
 pub read-within-spec : {M : Type 1} → statement M
 read-within-spec =
@@ -50,8 +77,14 @@ read-within-spec =
     enum-known-h
     enum-known-h-2
     read-declarations-requires
+    enum-known-d
+    enum-known-d-2
     returns
     same-length
     same-length-2
     same-length-3
-    returns-2)
+    returns-2
+    same-length-4
+    same-length-5
+    same-length-6
+    returns-3)

@@ -1,0 +1,9 @@
+pub mod Starts
+pub mod Seams
+pub mod Gaps
+pub mod Turns
+pub mod Scan
+pub mod Joined
+pub mod Forms
+pub mod Printed
+pub mod Canonical

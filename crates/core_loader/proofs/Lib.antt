@@ -1,0 +1,5 @@
+mod Tests
+mod Stored
+mod Cleared
+mod OwnPrint
+mod Judged

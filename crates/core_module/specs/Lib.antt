@@ -1,0 +1,4 @@
+pub mod CoreText
+pub mod SameText
+pub mod Escapes
+pub mod Statements

@@ -1,0 +1,3 @@
+mod Records
+mod Repeats
+mod Blank

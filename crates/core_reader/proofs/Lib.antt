@@ -1,0 +1,3 @@
+mod Lines
+mod Flat
+mod Texts

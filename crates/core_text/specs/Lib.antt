@@ -1,0 +1,3 @@
+pub mod TextReading
+pub mod TextGrammar
+pub mod Statements

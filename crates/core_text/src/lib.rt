@@ -1,0 +1,1 @@
+// Core text: its forms and its reading order. Definitions and theorems alone.

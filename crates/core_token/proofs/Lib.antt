@@ -1,0 +1,6 @@
+mod Classes
+pub mod Runs
+pub mod Outcomes
+pub mod Bounds
+pub mod Parentheses
+pub mod Ends

@@ -1,0 +1,11 @@
+mod Ends
+mod Digits
+mod Words
+mod Frames
+mod Turning
+mod RowWords
+mod Forests
+mod Views
+mod Modules
+mod Buffer
+mod Finishing

@@ -1,0 +1,3 @@
+-- Definitions that only contracts of inner functions cite: nobody has to believe them.
+pub mod Ends
+pub mod Machine
