@@ -1,12 +1,12 @@
-/* sulyterom.h: loads a hott-surface/0.1 source into a numbered core module that a kernel can check, and tells which
-   declarations depend on which.
+/* sulyterom.h: loads a hott-surface/0.1 source into a numbered core module that a kernel can check, tells which
+   declarations depend on which, and writes and reads core text, by which stations exchange core modules.
 
    `rt staticlib sulyterom` makes target/staticlib/libsulyterom.a for x86-64 Linux. Link it:
 
        cc -Iinclude program.c target/staticlib/libsulyterom.a
 
-   or, where it is installed, `cc program.c $(pkg-config --cflags --libs sulyterom)`. examples/load.c is a whole program.
-   In short:
+   or, where it is installed, `cc program.c $(pkg-config --cflags --libs sulyterom)`. examples/load.c is a whole
+   program, and examples/core.c one that writes core text. In short:
 
        static sulyterom_row surface[1024], core[1024];
        static sulyterom_declaration declarations[256];
@@ -21,15 +21,15 @@
            // refused, at no place
        }
 
-   The functions up to sulyterom_same are the library's own, and take each table as words. Behind them stand inline
-   functions over structs, which do nothing but call these: rows and records are the same memory.
+   The functions up to sulyterom_read_canonical are the library's own, and take each table as words. Behind them stand
+   inline functions over structs, which do nothing but call these: rows and records are the same memory.
 
-   What is passed. Every table, and the source, is passed as a pointer to its first element and then its length in
-   elements (words of 32 bits, or bytes of the source, or numbers of 64 bits), never in bytes of memory; in the structs
-   with its count of rows, records or words. A pointer is not NULL and is aligned for its type, even where the length
-   is 0. The tables do not overlap each other, the source or the answer, and no other thread touches them, nor writes
-   the source, during the call. Nothing else is asked: a source may be any bytes, a table may have any length and any
-   former content.
+   What is passed. Every table, the source and a text are passed as a pointer to the first element and then the length
+   in elements (words of 32 bits, or bytes of the source or text, or numbers of 64 bits), never in bytes of memory; in
+   the structs with its count of rows, records or words. A pointer is not NULL and is aligned for its type, even where
+   the length is 0. The tables, and a text that is written, do not overlap each other, what is read or the answer, and
+   no other thread touches them, nor writes what is read, during the call. Nothing else is asked: a source or a text
+   may be any bytes, a table may have any length and any former content.
 
    What is promised. A function returns, and the answer and every word of every table are what a definition says
    (crates/sulyterom/src has the promises, each proved). It allocates nothing, writes nothing but the tables
@@ -43,9 +43,9 @@
 
 /* The version of this header and of the library beside it. */
 #define SULYTEROM_VERSION_MAJOR 0
-#define SULYTEROM_VERSION_MINOR 2
+#define SULYTEROM_VERSION_MINOR 3
 #define SULYTEROM_VERSION_PATCH 0
-#define SULYTEROM_VERSION_TEXT "0.2.0"
+#define SULYTEROM_VERSION_TEXT "0.3.0"
 
 #ifdef __cplusplus
 extern "C" {
@@ -59,33 +59,52 @@ extern "C" {
 
    A term has at least 3 bytes of source and a declaration at least 17, so that for a source of so many bytes
    SULYTEROM_ROWS_FOR and SULYTEROM_DECLARATIONS_FOR never lead to a refusal 8, 9 or 10; for the longest source
-   these are 21,845 rows and 3,855 records. Most sources need much less. Spare words are set to 0 in every call,
-   which takes time. */
+   these are 21,845 rows and 3,855 records. The same holds of a core text of so many bytes: its shortest terms are nat
+   and, beside their arguments, forms like (j ..), and its shortest declaration is (postulate"a"nat). Most need much
+   less. Spare words are set to 0 in every call, which takes time.
+
+   A text buffer of SULYTEROM_TEXT_FOR bytes never leads to a refusal 14, for a source of so many bytes. The head and
+   the end of a text have 65 bytes, the head of a source at least 23, and nothing else is printed in more than twice the
+   bytes that it has in the source, its arguments apart and with the space that is printed before it:
+       nat                  3 bytes, printed in 4; unit, star, zero 4 in 5, empty 5 in 6
+       (ref x)              at least 7, printed as (global P) in at most 14 or as (var C) in at most 10, since a place
+                            has at most 4 digits (there are at most 3,855 declarations) and a count at most 3 (there
+                            are at most 512 binders around it)
+       (universe N)         as many and the space: at least 12 in 13
+       (j ..)               3 bytes in 4; every other tag is longer, and has one byte more as well; pi, sigma and lam
+                            have fewer, since the binder is not printed
+       (postulate x ..)     at least 13 bytes in 16, for the space and two quotes; (transparent x ..) 15 in 18 and
+                            (opaque x ..) 10 in 13
+   So a text has at most 65 + 2 * (bytes - 23) bytes; for the longest source these are 131,089. */
 #define SULYTEROM_ROW_WORDS 8
 #define SULYTEROM_ROW_OFFSET 7 /* the word of a row that says where its term starts */
 #define SULYTEROM_RECORD_WORDS 5
 #define SULYTEROM_WORK_WORDS 16384
 #define SULYTEROM_ANSWER_WORDS 3
 #define SULYTEROM_LONG_ANSWER_WORDS 4 /* of sulyterom_list and sulyterom_token */
-#define SULYTEROM_LONGEST_SOURCE 65535 /* bytes */
-#define SULYTEROM_MOST_FRAMES 512      /* forms open at the same time in one type or body */
-#define SULYTEROM_STACK_BYTES 32768    /* that a call stays below */
+#define SULYTEROM_LONGEST_SOURCE 65535     /* bytes */
+#define SULYTEROM_LONGEST_TEXT 4294967295u /* bytes of a core text that is read */
+#define SULYTEROM_MOST_FRAMES 512          /* forms open at the same time in one type or body */
+#define SULYTEROM_STACK_BYTES 32768        /* that a call stays below */
 #define SULYTEROM_ROWS_FOR(bytes) ((bytes) / 3)
 #define SULYTEROM_DECLARATIONS_FOR(bytes) ((bytes) / 17)
+#define SULYTEROM_TEXT_FOR(bytes) ((bytes) * 2 + 19) /* bytes of the text that is printed for a source */
 
 /* The number that a function returns: 0, or the class of the refusal. "At" says that a place comes with it: the
-   offset in the source, from 0. The others have no place. Where several apply, the order is: 11, 6, not UTF-8 (1),
-   a leading EF BB BF (1), then 1, 2, 3, 7, 8 and 9 as the source is read, 10, then for each declaration in turn 4
-   and 5, and last 12. */
+   offset in the source, or in the core text that is read, from 0. The others have no place. Where several apply to a
+   source, the order is: 11, 6, not UTF-8 (1), a leading EF BB BF (1), then 1, 2, 3, 7, 8 and 9 as the source is read,
+   10, then for each declaration in turn 4 and 5, and last 12 or 14. Where several apply to a core text that is read:
+   11, 6, not UTF-8 (13), a leading EF BB BF (13), then 13, 2, 7, 9 and 10 as the text is read, a name used twice (13 at
+   0), and last, by sulyterom_read_canonical alone, 13 without a place. */
 typedef enum sulyterom_class {
     SULYTEROM_ACCEPTED = 0,
     /* From the source. */
     SULYTEROM_MALFORMED = 1,      /* at the byte, or the first byte of the token, that does not fit */
-    SULYTEROM_VERSION = 2,        /* the version is not 0 1 */
+    SULYTEROM_VERSION = 2,        /* the version is not 0 1, or the theory of a core text not "mltt-core" */
     SULYTEROM_RESERVED_NAME = 3,  /* at a reserved word that stands where a name must */
     SULYTEROM_DUPLICATE_NAME = 4, /* an earlier declaration has the same name */
     SULYTEROM_UNKNOWN_NAME = 5,   /* a reference to no binder and no earlier declaration */
-    SULYTEROM_LONG_SOURCE = 6,    /* over SULYTEROM_LONGEST_SOURCE bytes */
+    SULYTEROM_LONG_SOURCE = 6,    /* over SULYTEROM_LONGEST_SOURCE bytes, or a core text over SULYTEROM_LONGEST_TEXT */
     SULYTEROM_FRAMES = 7,         /* over SULYTEROM_MOST_FRAMES forms open in one type or body */
     /* From the tables. */
     SULYTEROM_SURFACE_FULL = 8,      /* fewer rows lent than the source has terms */
@@ -93,7 +112,12 @@ typedef enum sulyterom_class {
     SULYTEROM_CORE_SHORT = 10,       /* fewer core rows lent than the source has terms */
     SULYTEROM_WORK_SHORT = 11,       /* under SULYTEROM_WORK_WORDS words of work area */
     /* From the question. */
-    SULYTEROM_NO_DECLARATION = 12 /* dependence asked of a place that is no declaration */
+    SULYTEROM_NO_DECLARATION = 12, /* dependence asked of a place that is no declaration */
+    /* From a core text that is read. */
+    SULYTEROM_CORE_TEXT = 13, /* at the byte, or the first byte of the token, that does not fit; at 0 for a name that is
+                                 used twice; without a place for a text that is not its own print */
+    /* From the buffer that is printed into. */
+    SULYTEROM_TEXT_SHORT = 14 /* it is shorter than the text */
 } sulyterom_class;
 
 /* The kind of a row, its first word. Row k of a table begins at word k * SULYTEROM_ROW_WORDS. Rows are numbered
@@ -127,7 +151,11 @@ typedef enum sulyterom_class {
 
    Start and length are bytes of the source. Every other field but count and place is the number of a row. Count
    says how many binders stand between a reference and the one that binds it: 0 is the innermost. Place is a
-   declaration's. */
+   declaration's.
+
+   A core row that was read from a core text is the same, but refers to that text: its last word is the term's offset in
+   the text, and var, global and universe have the start and the length of their numeral in the text, which may have any
+   number of digits. Whether there is such a binder or declaration is not looked at. */
 typedef enum sulyterom_kind {
     SULYTEROM_VAR = 1,    /* core only */
     SULYTEROM_GLOBAL = 2, /* core only */
@@ -170,7 +198,9 @@ typedef enum sulyterom_token_kind {
     SULYTEROM_END = 4 /* no bytes, at the source's length */
 } sulyterom_token_kind;
 
-/* The words of a record. The declaration at place d, from 0, begins at word d * SULYTEROM_RECORD_WORDS. */
+/* The words of a record. The declaration at place d, from 0, begins at word d * SULYTEROM_RECORD_WORDS. The name of one
+   that was read from a core text is what stands there between the quotes: a quote and a backslash have a backslash
+   before them in it, which counts. */
 #define SULYTEROM_RECORD_KIND 0
 #define SULYTEROM_RECORD_NAME_START 1
 #define SULYTEROM_RECORD_NAME_LENGTH 2
@@ -250,6 +280,46 @@ uint8_t sulyterom_same(const uint8_t *first, size_t first_length, const uint8_t 
                        size_t declarations2_length, uint32_t *work, size_t work_length, uint64_t *answer,
                        size_t answer_length);
 
+/* Loads a source as sulyterom_load does, and writes its core text into text: the module with its references as
+   numbers, in one line that ends with byte 10. SULYTEROM_TEXT_FOR says how long it can be.
+
+   Accepted: returns 0 and leaves in
+       answer        1, the text's length in bytes, byte 10 included, 0
+       text          the text, then 0
+       all tables    what loading leaves
+
+   Refused, by loading or, after it, since text_length is less than the text's length (14, without a place): returns
+   the class, with the answer as sulyterom_load leaves it and 0 in text and all tables. */
+uint8_t sulyterom_print(const uint8_t *source, size_t source_length, uint32_t *surface, size_t surface_length,
+                        uint32_t *core, size_t core_length, uint32_t *declarations, size_t declarations_length,
+                        uint32_t *work, size_t work_length, uint8_t *text, size_t text_length, uint64_t *answer,
+                        size_t answer_length);
+
+/* Reads a core text in any layout.
+
+   Accepted: returns 0 and leaves in
+       answer        2, the number of rows, the number of declarations
+       core          the rows, which refer to the text, then 0
+       declarations  the records, whose names stand in the text, then 0
+       work          0
+
+   Refused, with 2, 6, 7, 9, 10, 11 or 13: returns the class and leaves in
+       answer        1, the offset, 0; or 0, 0, 0 where there is no place
+       all tables    0
+   10 is given as soon as a term is complete and the core table is full.
+
+   What is left is not what loading leaves (see sulyterom_kind): var and global have digits in the place of a number. */
+uint8_t sulyterom_read_core(const uint8_t *text, size_t text_length, uint32_t *core, size_t core_length,
+                            uint32_t *declarations, size_t declarations_length, uint32_t *work, size_t work_length,
+                            uint64_t *answer, size_t answer_length);
+
+/* Reads a core text as sulyterom_read_core does, but takes it only if it is, byte for byte, what printing its module
+   gives: then equal modules have equal texts. Every other text is refused with 13 without a place, after all else. A
+   text that sulyterom_print wrote is taken. */
+uint8_t sulyterom_read_canonical(const uint8_t *text, size_t text_length, uint32_t *core, size_t core_length,
+                                 uint32_t *declarations, size_t declarations_length, uint32_t *work,
+                                 size_t work_length, uint64_t *answer, size_t answer_length);
+
 /* Rows, records and tables as structs.
 
    A row and a record are the words described above, so that a table of these is the table of words that the functions
@@ -257,13 +327,13 @@ uint8_t sulyterom_same(const uint8_t *first, size_t first_length, const uint8_t 
 typedef struct sulyterom_row {
     uint32_t kind; /* sulyterom_kind */
     uint32_t fields[SULYTEROM_ROW_OFFSET - 1];
-    uint32_t offset; /* of the term's first byte in the source */
+    uint32_t offset; /* of the term's first byte in the source, or in the core text that was read */
 } sulyterom_row;
 
 typedef struct sulyterom_declaration {
     uint32_t kind;        /* sulyterom_declaration_kind */
-    uint32_t name_start;  /* bytes of the source */
-    uint32_t name_length; /* bytes of the source */
+    uint32_t name_start;  /* bytes of the source, or of the core text that was read */
+    uint32_t name_length; /* bytes of the same */
     uint32_t type_row;
     uint32_t body_row; /* 0 for a postulate */
 } sulyterom_declaration;
@@ -285,8 +355,8 @@ typedef struct sulyterom_tables {
     size_t work_words;
 } sulyterom_tables;
 
-/* What sulyterom_load_into answers. The last two are 0 after a refusal; has_offset and offset are 0 where there is no
-   place. */
+/* What sulyterom_load_into, sulyterom_read_core_into and sulyterom_read_canonical_into answer. The last two are 0 after
+   a refusal; has_offset and offset are 0 where there is no place. */
 typedef struct sulyterom_loaded {
     sulyterom_class refused; /* SULYTEROM_ACCEPTED: it is not */
     int has_offset;
@@ -330,16 +400,17 @@ typedef struct sulyterom_comparison {
     size_t declaration; /* the first place at which they part, if not */
 } sulyterom_comparison;
 
-/* As sulyterom_load. */
-static inline sulyterom_loaded sulyterom_load_into(const uint8_t *source, size_t source_length,
-                                                   const sulyterom_tables *tables) {
-    uint64_t answer[SULYTEROM_ANSWER_WORDS] = {0, 0, 0};
-    sulyterom_loaded told = {SULYTEROM_ACCEPTED, 0, 0, 0, 0};
-    told.refused = (sulyterom_class)sulyterom_load(
-        source, source_length, (uint32_t *)tables->surface, tables->surface_rows * SULYTEROM_ROW_WORDS,
-        (uint32_t *)tables->core, tables->core_rows * SULYTEROM_ROW_WORDS, (uint32_t *)tables->declarations,
-        tables->declaration_records * SULYTEROM_RECORD_WORDS, tables->work, tables->work_words, answer,
-        SULYTEROM_ANSWER_WORDS);
+/* What sulyterom_print_into answers. */
+typedef struct sulyterom_printed {
+    sulyterom_class refused;
+    int has_offset;
+    size_t offset;
+    size_t length; /* of the text, its last byte 10 included; 0 after a refusal */
+} sulyterom_printed;
+
+/* What loading, or reading a core text, returned and left in its answer. */
+static inline sulyterom_loaded sulyterom_loaded_of(uint8_t number, const uint64_t *answer) {
+    sulyterom_loaded told = {(sulyterom_class)number, 0, 0, 0, 0};
     if (told.refused == SULYTEROM_ACCEPTED) {
         told.rows = (size_t)answer[1];
         told.declarations = (size_t)answer[2];
@@ -348,6 +419,18 @@ static inline sulyterom_loaded sulyterom_load_into(const uint8_t *source, size_t
         told.offset = (size_t)answer[1];
     }
     return told;
+}
+
+/* As sulyterom_load. */
+static inline sulyterom_loaded sulyterom_load_into(const uint8_t *source, size_t source_length,
+                                                   const sulyterom_tables *tables) {
+    uint64_t answer[SULYTEROM_ANSWER_WORDS] = {0, 0, 0};
+    uint8_t number = sulyterom_load(
+        source, source_length, (uint32_t *)tables->surface, tables->surface_rows * SULYTEROM_ROW_WORDS,
+        (uint32_t *)tables->core, tables->core_rows * SULYTEROM_ROW_WORDS, (uint32_t *)tables->declarations,
+        tables->declaration_records * SULYTEROM_RECORD_WORDS, tables->work, tables->work_words, answer,
+        SULYTEROM_ANSWER_WORDS);
+    return sulyterom_loaded_of(number, answer);
 }
 
 /* As sulyterom_list. */
@@ -436,6 +519,47 @@ static inline sulyterom_comparison sulyterom_same_in(const uint8_t *first, size_
     return told;
 }
 
+/* As sulyterom_print. */
+static inline sulyterom_printed sulyterom_print_into(const uint8_t *source, size_t source_length,
+                                                     const sulyterom_tables *tables, uint8_t *text, size_t text_length) {
+    uint64_t answer[SULYTEROM_ANSWER_WORDS] = {0, 0, 0};
+    sulyterom_printed told = {SULYTEROM_ACCEPTED, 0, 0, 0};
+    told.refused = (sulyterom_class)sulyterom_print(
+        source, source_length, (uint32_t *)tables->surface, tables->surface_rows * SULYTEROM_ROW_WORDS,
+        (uint32_t *)tables->core, tables->core_rows * SULYTEROM_ROW_WORDS, (uint32_t *)tables->declarations,
+        tables->declaration_records * SULYTEROM_RECORD_WORDS, tables->work, tables->work_words, text, text_length, answer,
+        SULYTEROM_ANSWER_WORDS);
+    if (told.refused == SULYTEROM_ACCEPTED) {
+        told.length = (size_t)answer[1];
+    } else {
+        told.has_offset = answer[0] == 1;
+        told.offset = (size_t)answer[1];
+    }
+    return told;
+}
+
+/* As sulyterom_read_core. The surface rows are not used. */
+static inline sulyterom_loaded sulyterom_read_core_into(const uint8_t *text, size_t text_length,
+                                                        const sulyterom_tables *tables) {
+    uint64_t answer[SULYTEROM_ANSWER_WORDS] = {0, 0, 0};
+    uint8_t number = sulyterom_read_core(
+        text, text_length, (uint32_t *)tables->core, tables->core_rows * SULYTEROM_ROW_WORDS,
+        (uint32_t *)tables->declarations, tables->declaration_records * SULYTEROM_RECORD_WORDS, tables->work,
+        tables->work_words, answer, SULYTEROM_ANSWER_WORDS);
+    return sulyterom_loaded_of(number, answer);
+}
+
+/* As sulyterom_read_canonical. The surface rows are not used. */
+static inline sulyterom_loaded sulyterom_read_canonical_into(const uint8_t *text, size_t text_length,
+                                                             const sulyterom_tables *tables) {
+    uint64_t answer[SULYTEROM_ANSWER_WORDS] = {0, 0, 0};
+    uint8_t number = sulyterom_read_canonical(
+        text, text_length, (uint32_t *)tables->core, tables->core_rows * SULYTEROM_ROW_WORDS,
+        (uint32_t *)tables->declarations, tables->declaration_records * SULYTEROM_RECORD_WORDS, tables->work,
+        tables->work_words, answer, SULYTEROM_ANSWER_WORDS);
+    return sulyterom_loaded_of(number, answer);
+}
+
 /* A class in a few words; "" for a number that is none. */
 static inline const char *sulyterom_class_text(sulyterom_class number) {
     switch (number) {
@@ -445,13 +569,15 @@ static inline const char *sulyterom_class_text(sulyterom_class number) {
     case SULYTEROM_RESERVED_NAME: return "reserved word where a name must stand";
     case SULYTEROM_DUPLICATE_NAME: return "declaration name used before";
     case SULYTEROM_UNKNOWN_NAME: return "unknown name";
-    case SULYTEROM_LONG_SOURCE: return "source over 65,535 bytes";
+    case SULYTEROM_LONG_SOURCE: return "source over 65,535 bytes, or core text over 4,294,967,295";
     case SULYTEROM_FRAMES: return "more than 512 forms open in one term";
     case SULYTEROM_SURFACE_FULL: return "surface row table full";
     case SULYTEROM_DECLARATIONS_FULL: return "declaration list full";
     case SULYTEROM_CORE_SHORT: return "core table has fewer rows than were read";
     case SULYTEROM_WORK_SHORT: return "work area under 16,384 words";
     case SULYTEROM_NO_DECLARATION: return "no declaration at a place asked of";
+    case SULYTEROM_CORE_TEXT: return "malformed or noncanonical core text";
+    case SULYTEROM_TEXT_SHORT: return "text buffer shorter than the text";
     }
     return "";
 }

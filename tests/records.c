@@ -1,6 +1,6 @@
 /* Lends rows and declarations as structs, by the inline functions of sulyterom.h, and compares with the calls that lend
    words: the answer and every word must be equal, for lists of many lengths, and what lies behind the list must stay.
-   Then the listing, reading alone and tokens.
+   Then the listing, reading alone, tokens and core text.
    The last line is 'N passed, M failed'. */
 #include "sulyterom.h"
 
@@ -146,6 +146,92 @@ static void parses(const char *source, uint8_t number) {
     }
 }
 
+/* Printing and reading with structs and with words. */
+static void prints(const char *source, size_t n, size_t room) {
+    static uint8_t by_words[1000], by_structs[1000];
+    const uint8_t *s = (const uint8_t *)source;
+    const size_t length = strlen(source);
+    fill(&words);
+    fill(&structs);
+    memset(by_words, 0xa5, sizeof by_words);
+    memset(by_structs, 0xa5, sizeof by_structs);
+    uint8_t number = sulyterom_print(s, length, &words.surface[0].kind, ROW_WORDS, &words.core[0].kind, ROW_WORDS,
+                                     &words.list[0].kind, n * 5, words.work, WORK, by_words, room, answer, 3);
+    sulyterom_tables tables = lent(&structs, n);
+    sulyterom_printed told = sulyterom_print_into(s, length, &tables, by_structs, room);
+    int equal = number == 0 ? answers(1, told.length, 0) && !told.has_offset && told.offset == 0
+                            : answers((uint64_t)told.has_offset, told.offset, 0) && told.length == 0;
+    check(equal && number == told.refused && left(&words, &structs, n), "printing", length, n);
+    check(!memcmp(by_words, by_structs, sizeof by_words), "a printed text", length, n);
+}
+
+static void reads(const char *source, size_t n) {
+    const uint8_t *s = (const uint8_t *)source;
+    const size_t length = strlen(source);
+    for (int canonical = 0; canonical < 2; canonical++) {
+        fill(&words);
+        fill(&structs);
+        sulyterom_tables tables = lent(&structs, n);
+        uint8_t number = (canonical ? sulyterom_read_canonical : sulyterom_read_core)(
+            s, length, &words.core[0].kind, ROW_WORDS, &words.list[0].kind, n * 5, words.work, WORK, answer, 3);
+        sulyterom_loaded told = (canonical ? sulyterom_read_canonical_into : sulyterom_read_core_into)(s, length, &tables);
+        int equal = number == 0
+                        ? answers(2, told.rows, told.declarations) && !told.has_offset && told.offset == 0
+                        : answers((uint64_t)told.has_offset, told.offset, 0) && told.rows == 0 && told.declarations == 0;
+        check(equal && number == told.refused && left(&words, &structs, n), "reading a text", length, n);
+    }
+}
+
+/* What is printed is read, with numerals and names where the text has them. */
+static void core_text(void) {
+    static const char source[] = HEAD "(postulate x nat)(opaque long_name (pi x (ref x) (universe 10)) (lam x (ref x)))";
+    static uint8_t text_of[SULYTEROM_TEXT_FOR(sizeof source)];
+    static const char *const names[] = {"x\"", "long_name\""};
+    static const char *const terms[] = {"nat)", "(global 0) ", "(universe 10)", "(pi (", "(var 0)", "(lam "};
+    fill(&structs);
+    sulyterom_tables tables = lent(&structs, 2);
+    sulyterom_printed printed =
+        sulyterom_print_into((const uint8_t *)source, sizeof source - 1, &tables, text_of, sizeof text_of);
+    const char *first = (const char *)text_of;
+    check(printed.refused == SULYTEROM_ACCEPTED && printed.length == strlen(first), "printing", sizeof source - 1, 2);
+    sulyterom_loaded read = sulyterom_read_canonical_into(text_of, printed.length, &tables);
+    check(read.rows == 6 && read.declarations == 2, "reading what was printed", printed.length, 2);
+    for (size_t k = 0; k < read.rows; k++) {
+        check(structs.core[k].offset == (size_t)(strstr(first, terms[k]) - first), "the offset of a text's row", k, 2);
+    }
+    for (size_t d = 0; d < read.declarations; d++) {
+        const record *it = &structs.list[d];
+        check(it->name_start == (size_t)(strstr(first, names[d]) - first), "where a name stands", d, 2);
+        check(it->name_length == strlen(names[d]) - 1, "the length of a name", d, 2);
+    }
+    const sulyterom_row *universe = &structs.core[2];
+    check(universe->kind == SULYTEROM_UNIVERSE && universe->fields[1] == 2 && !memcmp(first + universe->fields[0], "10", 2),
+          "a numeral", 2, 2);
+    check(structs.core[1].kind == SULYTEROM_GLOBAL && structs.core[1].fields[1] == 1, "a global's numeral", 1, 2);
+    check(structs.core[4].kind == SULYTEROM_VAR && first[structs.core[4].fields[0]] == '0', "a var's numeral", 4, 2);
+
+    static const size_t rooms[] = {0, 64, 65, 100, 1000};
+    static const char *const sources[] = {source, HEAD, "(", HEAD "(postulate a (ref q))", "(surface 1 0)"};
+    for (size_t k = 0; k < sizeof sources / sizeof sources[0]; k++) {
+        for (size_t r = 0; r < sizeof rooms / sizeof rooms[0]; r++) {
+            prints(sources[k], 1, rooms[r]);
+            prints(sources[k], 2, rooms[r]);
+            prints(sources[k], 13108, rooms[r]);
+        }
+    }
+    static char changed[sizeof text_of + 1];
+    for (size_t k = 0; k <= printed.length; k++) {
+        static const char bytes[] = "( )a0\"\\\n";
+        strcpy(changed, first);
+        changed[k] = 0;
+        reads(changed, 2);
+        strcpy(changed, first);
+        changed[k] = bytes[k % (sizeof bytes - 1)];
+        reads(changed, 1 + k % 3);
+    }
+    reads(first, 13108);
+}
+
 static void tokens(void) {
     static const char source[] = "(a-1 ; x\n)]";
     const uint8_t *s = (const uint8_t *)source;
@@ -181,13 +267,13 @@ static void offsets(void) {
 
 /* Every class has words of its own, and other numbers have none. */
 static void classes(void) {
-    for (int k = 0; k <= 12; k++) {
+    for (int k = 0; k <= 14; k++) {
         const char *text_of = sulyterom_class_text((sulyterom_class)k);
         int alone = *text_of != 0;
         for (int other = 0; other < k; other++) alone = alone && strcmp(text_of, sulyterom_class_text((sulyterom_class)other));
         check(alone, "the text of a class", (size_t)k, 0);
     }
-    check(*sulyterom_class_text((sulyterom_class)13) == 0, "the text of no class", 13, 0);
+    check(*sulyterom_class_text((sulyterom_class)15) == 0, "the text of no class", 15, 0);
     char version[32];
     sprintf(version, "%d.%d.%d", SULYTEROM_VERSION_MAJOR, SULYTEROM_VERSION_MINOR, SULYTEROM_VERSION_PATCH);
     check(strcmp(version, SULYTEROM_VERSION_TEXT) == 0, "the version", 0, 0);
@@ -212,6 +298,7 @@ int main(void) {
     classes();
     tokens();
     offsets();
+    core_text();
     lists(HEAD "(postulate x nat)(postulate y (pi x (ref x) (ref x)))",
           "nodes 4 declarations 2\n0 nat\n1 global 0\n2 var 0\n3 pi 1 2\n0 postulate x 0\n1 postulate y 3\n",
           SULYTEROM_ACCEPTED);

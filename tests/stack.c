@@ -19,6 +19,8 @@ static const sulyterom_tables tables[2] = {
     {surface[1], ROWS, core[1], ROWS, declarations[1], RECORDS, work, SULYTEROM_WORK_WORDS},
 };
 static char source[SULYTEROM_LONGEST_SOURCE + 1];
+static uint8_t text[SULYTEROM_TEXT_FOR(SULYTEROM_LONGEST_SOURCE)];
+static size_t text_length;
 static size_t length;
 static int passed, failed;
 
@@ -38,6 +40,22 @@ static void *depends(void *unused) {
 
 static void *same(void *unused) {
     sulyterom_same_in((const uint8_t *)source, length, (const uint8_t *)source, length, &tables[0], &tables[1]);
+    return unused;
+}
+
+static void *print(void *unused) {
+    text_length = sulyterom_print_into((const uint8_t *)source, length, &tables[0], text, sizeof text).length;
+    return unused;
+}
+
+/* Of what was printed last. */
+static void *read_core(void *unused) {
+    sulyterom_read_core_into(text, text_length, &tables[0]);
+    return unused;
+}
+
+static void *read_canonical(void *unused) {
+    sulyterom_read_canonical_into(text, text_length, &tables[0]);
     return unused;
 }
 
@@ -72,6 +90,9 @@ static void all(const char *what) {
     check("loading", load);
     check("a dependence", depends);
     check("a comparison", same);
+    check("printing", print);
+    check("reading a core text", read_core);
+    check("reading a core text that is its own print", read_canonical);
 }
 
 int main(void) {

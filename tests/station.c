@@ -1,5 +1,5 @@
-/* Loads sources through the static library, as a station's program does, and looks at every word that a call leaves.
-   Built as C and as C++. The last line is 'N passed, M failed'. */
+/* Loads sources, and prints and reads core texts, through the static library, as a station's program does, and looks at
+   every word that a call leaves. Built as C and as C++. The last line is 'N passed, M failed'. */
 #include "sulyterom.h"
 #include "sulyterom.h" /* twice is once */
 
@@ -35,6 +35,21 @@ static const uint32_t records[DECLARATIONS] = {
 };
 static const uint32_t nothing[WORK] = {0};
 
+/* The core text of the input, and what reading it leaves: the same, but for where things stand, and with the numerals of
+   var and global in the place of their numbers. */
+#define TEXT_HEAD "(hott-core (format 0 1) (theory \"mltt-core\" 0 1) (declarations"
+static const char core_text[] = TEXT_HEAD " (postulate \"x\" nat) (postulate \"y\" (pi (global 0) (var 0)))))\n";
+static const uint32_t text_rows[CORE] = {
+    19, 0,   0, 0, 0, 0, 0, 78,  /* nat */
+    2,  110, 1, 0, 0, 0, 0, 102, /* global 0 */
+    1,  118, 1, 0, 0, 0, 0, 113, /* var 0 */
+    4,  1,   2, 0, 0, 0, 0, 98,  /* pi */
+};
+static const uint32_t text_records[DECLARATIONS] = {
+    1, 75, 1, 0, 0, /* postulate x */
+    1, 95, 1, 3, 0, /* postulate y */
+};
+
 /* Document 01's numbers, from 1 on. */
 static const int kinds[] = {
     SULYTEROM_VAR,  SULYTEROM_GLOBAL,   SULYTEROM_UNIVERSE,  SULYTEROM_PI,    SULYTEROM_LAM,
@@ -47,6 +62,7 @@ static const int classes[] = {
     SULYTEROM_MALFORMED,         SULYTEROM_VERSION,     SULYTEROM_RESERVED_NAME, SULYTEROM_DUPLICATE_NAME,
     SULYTEROM_UNKNOWN_NAME,      SULYTEROM_LONG_SOURCE, SULYTEROM_FRAMES,        SULYTEROM_SURFACE_FULL,
     SULYTEROM_DECLARATIONS_FULL, SULYTEROM_CORE_SHORT,  SULYTEROM_WORK_SHORT,    SULYTEROM_NO_DECLARATION,
+    SULYTEROM_CORE_TEXT,         SULYTEROM_TEXT_SHORT,
 };
 static const int declaration_kinds[] = {SULYTEROM_POSTULATE, SULYTEROM_TRANSPARENT, SULYTEROM_OPAQUE};
 
@@ -100,6 +116,25 @@ static uint8_t depends(const char *source, size_t i, size_t j, lengths lent) {
                              declarations, lent.declarations, work, lent.work, answer, 3);
 }
 
+/* The buffer that is printed into. */
+static uint8_t buffer[200];
+
+static uint8_t print(const char *source, lengths lent, size_t room) {
+    fill();
+    memset(buffer, 0xa5, sizeof buffer);
+    return sulyterom_print((const uint8_t *)source, strlen(source), surface, lent.surface, core, lent.core, declarations,
+                           lent.declarations, work, lent.work, buffer, room, answer, 3);
+}
+
+typedef uint8_t reader(const uint8_t *, size_t, uint32_t *, size_t, uint32_t *, size_t, uint32_t *, size_t, uint64_t *,
+                       size_t);
+
+static uint8_t read_text(reader *by, const char *source, lengths lent) {
+    fill();
+    return by((const uint8_t *)source, strlen(source), core, lent.core, declarations, lent.declarations, work, lent.work,
+              answer, 3);
+}
+
 static uint8_t same(const char *first, const char *second) {
     fill();
     return sulyterom_same((const uint8_t *)first, strlen(first), (const uint8_t *)second, strlen(second), surface,
@@ -122,6 +157,38 @@ static int holds(const uint32_t *table, size_t length, size_t lent, const uint32
 static int hold(lengths lent, const uint32_t *rows, const uint32_t *resolved, const uint32_t *declared) {
     return holds(surface, SURFACE, lent.surface, rows) && holds(core, CORE, lent.core, resolved) &&
            holds(declarations, DECLARATIONS, lent.declarations, declared) && holds(work, WORK, lent.work, nothing);
+}
+
+/* Whether the buffer holds a text where it was lent, 0 behind the text, and rubbish behind that. */
+static int text_holds(const char *expected, size_t room) {
+    size_t length = strlen(expected);
+    for (size_t i = length; i < sizeof buffer; i++) {
+        if (buffer[i] != (i < room ? 0 : 0xa5)) return 0;
+    }
+    return memcmp(buffer, expected, length) == 0;
+}
+
+/* Whether reading a text leaves these words, and no surface row. */
+static int read_hold(lengths lent, const uint32_t *rows, const uint32_t *declared) {
+    return holds(surface, SURFACE, 0, nothing) && holds(core, CORE, lent.core, rows) &&
+           holds(declarations, DECLARATIONS, lent.declarations, declared) && holds(work, WORK, lent.work, nothing);
+}
+
+/* A refusal of printing, which leaves 0 in the buffer too. */
+static void refuses_to_print(const char *what, const char *source, lengths lent, size_t room, uint8_t number, int offset) {
+    int told = print(source, lent, room) == number;
+    told = told && (offset < 0 ? answers(0, 0, 0) : answers(1, (uint64_t)offset, 0));
+    check(what, told && hold(lent, nothing, nothing, nothing) && text_holds("", room));
+}
+
+/* A refusal by both readers of core texts. */
+static void refuses_to_read(const char *what, const char *source, lengths lent, uint8_t number, int offset) {
+    static reader *const readers[] = {sulyterom_read_core, sulyterom_read_canonical};
+    for (size_t k = 0; k < 2; k++) {
+        int told = read_text(readers[k], source, lent) == number;
+        told = told && (offset < 0 ? answers(0, 0, 0) : answers(1, (uint64_t)offset, 0));
+        check(what, told && read_hold(lent, nothing, nothing));
+    }
 }
 
 static int second_hold(const uint32_t *rows, const uint32_t *resolved, const uint32_t *declared) {
@@ -157,6 +224,47 @@ static const char *nested(int forms) {
     for (int i = 0; i < forms; i++) strcat(text, ")");
     strcat(text, ")");
     return text;
+}
+
+static void prints_and_reads(void) {
+    size_t length = strlen(core_text);
+    check("01's input printed", print(input, whole, sizeof buffer) == 0 && answers(1, length, 0));
+    check("01's input printed: every byte", text_holds(core_text, sizeof buffer));
+    check("01's input printed: what loading leaves", hold(whole, surface_rows, core_rows, records));
+    check("just the room", print(input, whole, length) == 0 && answers(1, length, 0) && text_holds(core_text, length));
+    check("the head printed", print(HEAD, whole, 65) == 0 && answers(1, 65, 0) && text_holds(TEXT_HEAD "))\n", 65));
+    refuses_to_print("a byte too little: 14", input, whole, length - 1, SULYTEROM_TEXT_SHORT, -1);
+    refuses_to_print("no room: 14", HEAD, whole, 0, SULYTEROM_TEXT_SHORT, -1);
+    refuses_to_print("loading first: 1 at 1", "(", whole, 0, SULYTEROM_MALFORMED, 1);
+    refuses_to_print("loading first: 5", HEAD "(postulate a (ref q))", whole, 0, SULYTEROM_UNKNOWN_NAME, -1);
+    lengths lent = whole;
+    lent.core = 31;
+    refuses_to_print("31 words of core rows: 10", input, lent, 0, SULYTEROM_CORE_SHORT, -1);
+
+    check("its text read", read_text(sulyterom_read_core, core_text, whole) == 0 && answers(2, 4, 2));
+    check("its text read: every word", read_hold(whole, text_rows, text_records));
+    check("its text read as its own print", read_text(sulyterom_read_canonical, core_text, whole) == 0 && answers(2, 4, 2));
+    check("its text read as its own print: every word", read_hold(whole, text_rows, text_records));
+    check("another layout", read_text(sulyterom_read_core, TEXT_HEAD "))", whole) == 0 && answers(2, 0, 0));
+    check("another layout: 13", read_text(sulyterom_read_canonical, TEXT_HEAD "))", whole) == SULYTEROM_CORE_TEXT &&
+                                    answers(0, 0, 0) && read_hold(whole, nothing, nothing));
+    refuses_to_read("nothing: 13 at 0", "", whole, SULYTEROM_CORE_TEXT, 0);
+    refuses_to_read("not UTF-8: 13 at 65", TEXT_HEAD "))\n\xc3", whole, SULYTEROM_CORE_TEXT, 65);
+    refuses_to_read("a mark: 13 at 0", "\xef\xbb\xbf" TEXT_HEAD "))\n", whole, SULYTEROM_CORE_TEXT, 0);
+    refuses_to_read("a comment: 13 at 65", TEXT_HEAD "))\n; end", whole, SULYTEROM_CORE_TEXT, 65);
+    refuses_to_read("a name twice: 13 at 0", TEXT_HEAD "(postulate \"a\" nat)(postulate \"a\" nat)))", whole,
+                    SULYTEROM_CORE_TEXT, 0);
+    refuses_to_read("format 0 2: 2", "(hott-core (format 0 2) (theory \"mltt-core\" 0 1) ]", whole, SULYTEROM_VERSION, -1);
+    refuses_to_read("31 words of core rows: 10", core_text, lent, SULYTEROM_CORE_SHORT, -1);
+    lent = whole;
+    lent.declarations = 9;
+    refuses_to_read("9 words of declarations: 9", core_text, lent, SULYTEROM_DECLARATIONS_FULL, -1);
+    lent = whole;
+    lent.work = WORK - 1;
+    refuses_to_read("a short work area: 11", "", lent, SULYTEROM_WORK_SHORT, -1);
+    strcpy(text, TEXT_HEAD "(postulate \"a\" ");
+    for (int i = 0; i <= SULYTEROM_MOST_FRAMES; i++) strcat(text, "(fst ");
+    refuses_to_read("513 frames: 7", text, whole, SULYTEROM_FRAMES, -1);
 }
 
 int main(void) {
@@ -225,11 +333,19 @@ int main(void) {
     check("its refusal leaves 0 for both",
           hold(whole, nothing, nothing, nothing) && second_hold(nothing, nothing, nothing));
 
+    prints_and_reads();
+
     memset(answer, 0xa5, sizeof answer);
     check("room for two numbers: accepted",
           sulyterom_load((const uint8_t *)input, strlen(input), surface, SURFACE, core, CORE, declarations,
                          DECLARATIONS, work, WORK, answer, 2) == 0);
     check("room for two numbers: the answer is left as it is", answer[0] == 0xa5a5a5a5a5a5a5a5u);
+    check("room for two numbers: printed",
+          sulyterom_print((const uint8_t *)input, strlen(input), surface, SURFACE, core, CORE, declarations,
+                          DECLARATIONS, work, WORK, buffer, sizeof buffer, answer, 2) == 0);
+    check("room for two numbers: read", sulyterom_read_core((const uint8_t *)core_text, strlen(core_text), core, CORE,
+                                                            declarations, DECLARATIONS, work, WORK, answer, 0) == 0);
+    check("room for two numbers: the answer is left again", answer[0] == 0xa5a5a5a5a5a5a5a5u);
 
     printf("%d passed, %d failed\n", passed, failed);
     return failed != 0;

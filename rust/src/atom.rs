@@ -1,12 +1,12 @@
-//! Parts of the source.
+//! Parts of a source or of a core text.
 use core::fmt;
 
-/// A name or a numeral, which is a part of the source.
+/// A name or a numeral, which is a part of the source or of the core text that was read.
 #[derive(Clone, Copy, Eq, Hash, PartialEq)]
 pub struct Atom<'a> {
     /// The offset of its first byte.
     pub start: usize,
-    /// Its bytes, in the source itself.
+    /// Its bytes, in the source or the text itself.
     pub bytes: &'a [u8],
 }
 
@@ -17,9 +17,10 @@ impl<'a> Atom<'a> {
         Self { start, bytes: &source[start..start + length] }
     }
 
-    /// Its text: letters, digits and `_` of ASCII.
+    /// Its text: letters, digits and `_` of ASCII. The name of a core text's declaration is what stands between the quotes:
+    /// it may have any characters but controls, and a backslash before each quote and backslash.
     pub fn as_str(&self) -> &'a str {
-        core::str::from_utf8(self.bytes).expect("an atom is ASCII")
+        core::str::from_utf8(self.bytes).expect("a name is UTF-8")
     }
 }
 

@@ -23,7 +23,8 @@ impl fmt::Display for DeclarationKind {
     }
 }
 
-/// A declaration of a loaded module. It is shown as in the listing: kind, name, and the rows of its type and body.
+/// A declaration of a loaded module, or of a core text that was read. It is shown as in the listing: kind, name, and the
+/// rows of its type and body.
 #[derive(Clone, Copy, Debug, Eq, Hash, PartialEq)]
 pub struct Declaration<'a> {
     /// How it is made.

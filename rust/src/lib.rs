@@ -1,4 +1,5 @@
-//! Loads hott-surface/0.1 sources into numbered core modules that a kernel can check.
+//! Loads hott-surface/0.1 sources into numbered core modules that a kernel can check, and writes and reads core text, by
+//! which stations exchange these.
 //!
 //! The work is done by the library `libsulyterom.a`, in which every function is proved to do what a definition says. This
 //! crate adds what Rust expects: a [`Result`], views of rows and declarations as enums, tables that can be owned, lent
@@ -29,8 +30,23 @@
 //! assert_eq!(refusal.to_string(), "refused 3 at 21: reserved word where a name must stand");
 //! ```
 //!
+//! A module is handed on as its core text, which has numbers in the place of references:
+//!
+//! ```
+//! # use sulyterom::Loader;
+//! let mut loader = Loader::new();
+//! let text = loader.print(b"(surface 0 1)(module m)(postulate x nat)(postulate y (pi x (ref x) (ref x)))")?;
+//! let declarations = r#"(declarations (postulate "x" nat) (postulate "y" (pi (global 0) (var 0)))))"#;
+//! assert!(text.ends_with(format!("{declarations}\n").as_bytes()));
+//!
+//! let read = loader.read_canonical(&text)?;
+//! assert_eq!(read.declaration(1).unwrap().name.bytes, b"y");
+//! assert_eq!(read.row(1).unwrap().to_string(), "global 0");
+//! # Ok::<(), sulyterom::Refusal>(())
+//! ```
+//!
 //! A [`Loader`] has tables of its own and grows them. Where memory is lent by someone else, or is to have a limit, the
-//! functions [`load`], [`depends`] and [`same`] take [`Tables`] of any sizes.
+//! functions [`load`], [`depends`], [`same`], [`print`], [`read_core`] and [`read_canonical`] take [`Tables`] of any sizes.
 //!
 //! # Building
 //!
@@ -42,12 +58,14 @@ extern crate alloc;
 
 mod atom;
 mod comparison;
+mod core_text;
 mod declaration;
 mod dependence;
 mod library;
 mod listing;
 mod loaded;
 mod loader;
+mod printed;
 mod reference;
 mod refusal;
 mod row;
@@ -56,11 +74,13 @@ mod token;
 
 pub use atom::Atom;
 pub use comparison::Comparison;
+pub use core_text::{CoreText, TextRow};
 pub use declaration::{Declaration, DeclarationKind};
 pub use dependence::Dependence;
 pub use listing::Listing;
 pub use loaded::Loaded;
 pub use loader::Loader;
+pub use printed::Printed;
 pub use reference::{Reference, Target};
 pub use refusal::{Class, Refusal};
 pub use row::{Row, SurfaceRow};
@@ -75,6 +95,8 @@ pub const RECORD_WORDS: usize = 5;
 pub const WORK_WORDS: usize = 16_384;
 /// Bytes of the longest source that is not refused with [`Class::LongSource`].
 pub const LONGEST_SOURCE: usize = 65_535;
+/// Bytes of the longest core text that reading does not refuse with [`Class::LongSource`].
+pub const LONGEST_TEXT: usize = 4_294_967_295;
 /// Forms that may be open at the same time in one type or body.
 pub const MOST_FRAMES: usize = 512;
 
@@ -184,4 +206,100 @@ where
 {
     let (class, answer) = library::same(first, second, tables.lend(), others.lend());
     Comparison::from_numbers(class, answer)
+}
+
+/// Loads a source into the tables, as [`load`] does, and writes its core text into a buffer. [`text_room`] says how long
+/// that has to be; [`Loader::print`] gives a text in a buffer of its own.
+///
+/// The buffer is 0 behind the text, and all 0 after a refusal.
+///
+/// # Errors
+///
+/// A [`Refusal`] of loading or, after that, [`Class::TextShort`] if the buffer is shorter than the text; every word of
+/// the tables is then 0.
+///
+/// ```
+/// use sulyterom::{Class, Tables, print};
+///
+/// let (mut tables, mut buffer) = (Tables::with_sizes(1, 1), [7; 100]);
+/// let printed = print(b"(surface 0 1)(module m)(postulate x nat)", &mut tables, &mut buffer)?;
+/// assert!(printed.text.ends_with(b"(declarations (postulate \"x\" nat)))\n"));
+/// assert_eq!((printed.text.len(), printed.loaded.row_count()), (85, 1));
+/// assert_eq!(buffer[85..], [0; 15]);
+/// let refusal = print(b"(surface 0 1)(module m)(postulate x nat)", &mut tables, &mut buffer[..84]).unwrap_err();
+/// assert_eq!(refusal.class, Class::TextShort);
+/// # Ok::<(), sulyterom::Refusal>(())
+/// ```
+pub fn print<'a, W>(source: &'a [u8], tables: &'a mut Tables<W>, text: &'a mut [u8]) -> Result<Printed<'a>, Refusal>
+where
+    W: AsRef<[u32]> + AsMut<[u32]>,
+{
+    let told = library::print(source, tables.lend(), text);
+    Printed::told(source, tables, text, told)
+}
+
+/// Bytes that suffice for the core text of every source of so many bytes.
+///
+/// The head and the end of a text have 65 bytes and a source's head at least 23. Everything else has at most twice the
+/// bytes that it has in the source, its arguments apart: the most has a reference of 7 bytes, `(ref x)`, which may be
+/// printed as ` (global 1000)`, in 14, since there are fewer than 10,000 declarations.
+#[must_use]
+pub const fn text_room(bytes: usize) -> usize {
+    let bytes = if bytes < LONGEST_SOURCE { bytes } else { LONGEST_SOURCE };
+    2 * bytes + 19
+}
+
+/// Reads a core text in any layout into the tables. The surface table is left as it is.
+///
+/// After an acceptance the others hold what [`CoreText`] shows, and 0 everywhere else; after a refusal every word of them
+/// is 0.
+///
+/// # Errors
+///
+/// A [`Refusal`], if the text is no core text or if a table is too short for it. Where several apply, the order is: 11; 6;
+/// not UTF-8 (13); a byte order mark (13 at 0); 13, 2, 7, 9, 10 as the text is read; a name that is used twice (13 at 0).
+///
+/// ```
+/// use sulyterom::{Class, Tables, read_core};
+///
+/// let text = br#"(hott-core(format 0 1)(theory"mltt-core"0 1)(declarations(postulate"x y"(universe 10))))"#;
+/// let mut tables = Tables::with_sizes(1, 1);
+/// let read = read_core(text, &mut tables)?;
+/// assert_eq!(read.declaration(0).unwrap().name.bytes, b"x y");
+/// assert_eq!(read.row(0).unwrap().to_string(), "universe 10");
+/// let refusal = read_core(&text[..40], &mut tables).unwrap_err();
+/// assert_eq!((refusal.class, refusal.offset), (Class::CoreText, Some(40)));
+/// # Ok::<(), sulyterom::Refusal>(())
+/// ```
+pub fn read_core<'a, W>(text: &'a [u8], tables: &'a mut Tables<W>) -> Result<CoreText<'a>, Refusal>
+where
+    W: AsRef<[u32]> + AsMut<[u32]>,
+{
+    let told = library::read_core(text, tables.lend());
+    CoreText::told(text, tables, told)
+}
+
+/// Reads a core text as [`read_core`] does, but takes it only if it is, byte for byte, what printing its module gives: then
+/// equal modules have equal texts. A text that [`print`] wrote is taken.
+///
+/// # Errors
+///
+/// As [`read_core`] and, after all else, [`Class::CoreText`] with no offset for a text that is not its own print.
+///
+/// ```
+/// use sulyterom::{Class, Refusal, Tables, read_canonical};
+///
+/// let mut tables = Tables::with_sizes(1, 1);
+/// let text = b"(hott-core (format 0 1) (theory \"mltt-core\" 0 1) (declarations))\n";
+/// assert_eq!(read_canonical(text, &mut tables)?.row_count(), 0);
+/// let refusal = read_canonical(&text[..64], &mut tables).unwrap_err();
+/// assert_eq!(refusal, Refusal { class: Class::CoreText, offset: None });
+/// # Ok::<(), sulyterom::Refusal>(())
+/// ```
+pub fn read_canonical<'a, W>(text: &'a [u8], tables: &'a mut Tables<W>) -> Result<CoreText<'a>, Refusal>
+where
+    W: AsRef<[u32]> + AsMut<[u32]>,
+{
+    let told = library::read_canonical(text, tables.lend());
+    CoreText::told(text, tables, told)
 }

@@ -77,6 +77,49 @@ unsafe extern "C" {
         answer_length: usize,
     ) -> u8;
 
+    fn sulyterom_print(
+        source: *const u8,
+        source_length: usize,
+        surface: *mut u32,
+        surface_length: usize,
+        core: *mut u32,
+        core_length: usize,
+        declarations: *mut u32,
+        declarations_length: usize,
+        work: *mut u32,
+        work_length: usize,
+        text: *mut u8,
+        text_length: usize,
+        answer: *mut u64,
+        answer_length: usize,
+    ) -> u8;
+
+    fn sulyterom_read_core(
+        text: *const u8,
+        text_length: usize,
+        core: *mut u32,
+        core_length: usize,
+        declarations: *mut u32,
+        declarations_length: usize,
+        work: *mut u32,
+        work_length: usize,
+        answer: *mut u64,
+        answer_length: usize,
+    ) -> u8;
+
+    fn sulyterom_read_canonical(
+        text: *const u8,
+        text_length: usize,
+        core: *mut u32,
+        core_length: usize,
+        declarations: *mut u32,
+        declarations_length: usize,
+        work: *mut u32,
+        work_length: usize,
+        answer: *mut u64,
+        answer_length: usize,
+    ) -> u8;
+
     fn sulyterom_token(
         source: *const u8,
         source_length: usize,
@@ -187,6 +230,74 @@ pub fn list(source: &[u8], lent: Tables<&mut [u32]>, text: &mut [u8]) -> (u8, [u
             lent.work.len(),
             text.as_mut_ptr(),
             text.len(),
+            answer.as_mut_ptr(),
+            answer.len(),
+        )
+    };
+    (class, answer)
+}
+
+/// The class, 0 for acceptance; how many values follow, and the values: the length of the text, which is 0 behind it and
+/// after a refusal.
+pub fn print(source: &[u8], lent: Tables<&mut [u32]>, text: &mut [u8]) -> Told {
+    let mut answer = [0; 3];
+    // SAFETY: as above; the text is borrowed mutably too.
+    let class = unsafe {
+        sulyterom_print(
+            source.as_ptr(),
+            source.len(),
+            lent.surface.as_mut_ptr(),
+            lent.surface.len(),
+            lent.core.as_mut_ptr(),
+            lent.core.len(),
+            lent.declarations.as_mut_ptr(),
+            lent.declarations.len(),
+            lent.work.as_mut_ptr(),
+            lent.work.len(),
+            text.as_mut_ptr(),
+            text.len(),
+            answer.as_mut_ptr(),
+            answer.len(),
+        )
+    };
+    (class, answer)
+}
+
+/// The class, 0 for acceptance; how many values follow, and the values: rows and declarations. No surface rows are lent.
+pub fn read_core(text: &[u8], lent: Tables<&mut [u32]>) -> Told {
+    let mut answer = [0; 3];
+    // SAFETY: as above.
+    let class = unsafe {
+        sulyterom_read_core(
+            text.as_ptr(),
+            text.len(),
+            lent.core.as_mut_ptr(),
+            lent.core.len(),
+            lent.declarations.as_mut_ptr(),
+            lent.declarations.len(),
+            lent.work.as_mut_ptr(),
+            lent.work.len(),
+            answer.as_mut_ptr(),
+            answer.len(),
+        )
+    };
+    (class, answer)
+}
+
+/// The same of a text that must be its own print.
+pub fn read_canonical(text: &[u8], lent: Tables<&mut [u32]>) -> Told {
+    let mut answer = [0; 3];
+    // SAFETY: as above.
+    let class = unsafe {
+        sulyterom_read_canonical(
+            text.as_ptr(),
+            text.len(),
+            lent.core.as_mut_ptr(),
+            lent.core.len(),
+            lent.declarations.as_mut_ptr(),
+            lent.declarations.len(),
+            lent.work.as_mut_ptr(),
+            lent.work.len(),
             answer.as_mut_ptr(),
             answer.len(),
         )

@@ -1,9 +1,12 @@
 //! Tables that are kept and grow.
-use crate::tables::Sizes;
-use crate::{Comparison, Dependence, Listing, Loaded, Refusal, Tables, library};
+use crate::library::Told;
+use crate::tables::{Needs, Sizes};
+use crate::{Comparison, CoreText, Dependence, Listing, Loaded, Printed, Refusal, Tables, library, text_room};
+use alloc::vec;
+use alloc::vec::Vec;
 
-/// A loader with tables of its own, which are kept from one source to the next and grow as sources need it, so that
-/// none is refused for their sizes.
+/// A loader with tables of its own, which are kept from one source or core text to the next and grow as these need it,
+/// so that none is refused for their sizes.
 ///
 /// ```
 /// use sulyterom::{Comparison, Loader};
@@ -13,13 +16,15 @@ use crate::{Comparison, Dependence, Listing, Loaded, Refusal, Tables, library};
 /// assert_eq!(loader.load(source)?.row_count(), 2);
 /// assert_eq!(loader.depends(source, 1, 0)?.row, Some(1));
 /// assert_eq!(loader.same(source, b"(surface 0 1)(module n)"), Comparison::Different { declaration: 0 });
+/// let text = loader.print(source)?;
+/// assert_eq!(loader.read_canonical(&text)?.row_count(), 2);
 /// # Ok::<(), sulyterom::Refusal>(())
 /// ```
 #[derive(Clone, Debug)]
 pub struct Loader {
     tables: Tables,
     others: Tables,
-    /// Whether a source needed more than sources of its length are likely to: the next may be of that kind too.
+    /// Whether something needed more than others of its length are likely to: the next may be of that kind too.
     dense: bool,
 }
 
@@ -37,15 +42,17 @@ impl Loader {
     /// A [`Refusal`] that stands for every size of tables: class 1 to 7.
     pub fn load<'a>(&'a mut self, source: &'a [u8]) -> Result<Loaded<'a>, Refusal> {
         let (tables, dense) = (&mut self.tables, &mut self.dense);
-        let told = enough(dense, [source.len()], |[sizes]| library::load(source, tables.grown(sizes)));
+        let needs = Needs::of_source(source.len());
+        let told = enough(dense, [needs], |[sizes]| library::load(source, tables.grown(sizes)));
         Loaded::told(source, tables, told)
     }
 
     /// Gives a source's listing, as [`list`](crate::list) does.
     pub fn list(&mut self, source: &[u8]) -> Listing {
         let (tables, dense) = (&mut self.tables, &mut self.dense);
+        let needs = Needs::of_source(source.len());
         Listing::with_room(crate::room(source), |text| {
-            enough(dense, [source.len()], |[sizes]| library::list(source, tables.grown(sizes), text))
+            enough(dense, [needs], |[sizes]| library::list(source, tables.grown(sizes), text))
         })
     }
 
@@ -56,17 +63,67 @@ impl Loader {
     /// A [`Refusal`] of class 1 to 7 or 12.
     pub fn depends<'a>(&'a mut self, source: &'a [u8], i: usize, j: usize) -> Result<Dependence<'a>, Refusal> {
         let (tables, dense) = (&mut self.tables, &mut self.dense);
-        let told = enough(dense, [source.len()], |[sizes]| library::depends(source, i, j, tables.grown(sizes)));
+        let needs = Needs::of_source(source.len());
+        let told = enough(dense, [needs], |[sizes]| library::depends(source, i, j, tables.grown(sizes)));
         Dependence::told(source, tables, told)
     }
 
     /// Asks whether two sources leave the same core, as [`same`](crate::same) does.
     pub fn same(&mut self, first: &[u8], second: &[u8]) -> Comparison {
         let (tables, others, dense) = (&mut self.tables, &mut self.others, &mut self.dense);
-        let (class, answer) = enough(dense, [first.len(), second.len()], |[one, other]| {
-            library::same(first, second, tables.grown(one), others.grown(other))
-        });
+        let needs = [first, second].map(|source| Needs::of_source(source.len()));
+        let (class, answer) =
+            enough(dense, needs, |[one, other]| library::same(first, second, tables.grown(one), others.grown(other)));
         Comparison::from_numbers(class, answer)
+    }
+
+    /// Gives a source's core text, as [`print`](crate::print) does, in a buffer of its own.
+    ///
+    /// ```
+    /// let text = sulyterom::Loader::new().print(b"(surface 0 1)(module m)(postulate f (pi n nat (ref n)))")?;
+    /// let declarations = r#"(declarations (postulate "f" (pi nat (var 0)))))"#;
+    /// assert_eq!(text, format!("(hott-core (format 0 1) (theory \"mltt-core\" 0 1) {declarations}\n").as_bytes());
+    /// # Ok::<(), sulyterom::Refusal>(())
+    /// ```
+    ///
+    /// # Errors
+    ///
+    /// A [`Refusal`] that stands for every size of tables: class 1 to 7.
+    pub fn print(&mut self, source: &[u8]) -> Result<Vec<u8>, Refusal> {
+        let (tables, dense) = (&mut self.tables, &mut self.dense);
+        let mut text = vec![0; text_room(source.len())];
+        let needs = Needs::of_source(source.len());
+        let told = enough(dense, [needs], |[sizes]| library::print(source, tables.grown(sizes), &mut text));
+        text.truncate(Printed::length(told)?);
+        Ok(text)
+    }
+
+    /// Reads a core text in any layout, as [`read_core`](crate::read_core) does.
+    ///
+    /// # Errors
+    ///
+    /// A [`Refusal`] that stands for every size of tables: class 2, 6, 7 or 13.
+    pub fn read_core<'a>(&'a mut self, text: &'a [u8]) -> Result<CoreText<'a>, Refusal> {
+        self.read(text, library::read_core)
+    }
+
+    /// Reads a core text that is its own print, as [`read_canonical`](crate::read_canonical) does.
+    ///
+    /// # Errors
+    ///
+    /// As [`Loader::read_core`], and class 13 without an offset for a text that is not its own print.
+    pub fn read_canonical<'a>(&'a mut self, text: &'a [u8]) -> Result<CoreText<'a>, Refusal> {
+        self.read(text, library::read_canonical)
+    }
+
+    fn read<'a>(
+        &'a mut self,
+        text: &'a [u8],
+        ask: impl Fn(&[u8], Tables<&mut [u32]>) -> Told,
+    ) -> Result<CoreText<'a>, Refusal> {
+        let (tables, dense) = (&mut self.tables, &mut self.dense);
+        let told = enough(dense, [Needs::of_text(text.len())], |[sizes]| ask(text, tables.grown(sizes)));
+        CoreText::told(text, tables, told)
     }
 }
 
@@ -76,18 +133,18 @@ impl Default for Loader {
     }
 }
 
-/// Asks with the sizes that sources of these lengths are likely to need and, where a table is too short, once more with
-/// the most that they can need; from then on at once with these.
+/// Asks with the sizes that are likely to be needed and, where a table is too short, once more with the most that can be
+/// needed; from then on at once with these.
 fn enough<const N: usize, T>(
     dense: &mut bool,
-    bytes: [usize; N],
+    needs: [Needs; N],
     mut ask: impl FnMut([Sizes; N]) -> (u8, T),
 ) -> (u8, T) {
     if !*dense {
-        match ask(bytes.map(Sizes::likely)) {
+        match ask(needs.map(|needs| needs.likely)) {
             (8..=10, _) => *dense = true,
             told => return told,
         }
     }
-    ask(bytes.map(Sizes::most))
+    ask(needs.map(|needs| needs.most))
 }

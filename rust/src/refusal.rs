@@ -2,14 +2,14 @@
 use core::error::Error;
 use core::fmt;
 
-/// Why a source was refused, by document 01's numbers.
+/// Why a source or a core text was refused, by the numbers of documents 01 and 02.
 #[derive(Clone, Copy, Debug, Eq, Hash, Ord, PartialEq, PartialOrd)]
 #[non_exhaustive]
 #[repr(u8)]
 pub enum Class {
     /// A byte, or a token, that does not fit; with the offset of its first byte.
     Malformed = 1,
-    /// The version is not 0 1.
+    /// The version is not 0 1, or the theory of a core text not `mltt-core`.
     Version = 2,
     /// A reserved word where a name must stand; with its offset.
     ReservedName = 3,
@@ -17,20 +17,26 @@ pub enum Class {
     DuplicateName = 4,
     /// A reference to no binder and no earlier declaration.
     UnknownName = 5,
-    /// The source has over [`LONGEST_SOURCE`](crate::LONGEST_SOURCE) bytes.
+    /// The source has over [`LONGEST_SOURCE`](crate::LONGEST_SOURCE) bytes, or the core text over
+    /// [`LONGEST_TEXT`](crate::LONGEST_TEXT).
     LongSource = 6,
     /// Over [`MOST_FRAMES`](crate::MOST_FRAMES) forms are open in one type or body.
     Frames = 7,
     /// The source has more terms than the surface table has rows.
     SurfaceFull = 8,
-    /// The source has more declarations than the declaration list has records.
+    /// The source, or core text, has more declarations than the declaration list has records.
     DeclarationsFull = 9,
-    /// The source has more terms than the core table has rows.
+    /// The source, or core text, has more terms than the core table has rows.
     CoreShort = 10,
     /// The work area has under [`WORK_WORDS`](crate::WORK_WORDS) words.
     WorkShort = 11,
     /// Dependence was asked of a place that is no declaration.
     NoDeclaration = 12,
+    /// A byte, or a token, of a core text that does not fit, with the offset of its first byte; offset 0 for a name that is
+    /// used twice; or, with no offset, a text that is not its own print.
+    CoreText = 13,
+    /// The buffer is shorter than the text.
+    TextShort = 14,
 }
 
 impl Class {
@@ -48,9 +54,11 @@ impl Class {
         Self::CoreShort,
         Self::WorkShort,
         Self::NoDeclaration,
+        Self::CoreText,
+        Self::TextShort,
     ];
 
-    /// Document 01's number.
+    /// Its number in documents 01 and 02.
     #[must_use]
     pub const fn number(self) -> u8 {
         self as u8
@@ -65,18 +73,21 @@ impl fmt::Display for Class {
             Self::ReservedName => "reserved word where a name must stand",
             Self::DuplicateName => "declaration name used before",
             Self::UnknownName => "unknown name",
-            Self::LongSource => "source over 65,535 bytes",
+            Self::LongSource => "source over 65,535 bytes, or core text over 4,294,967,295",
             Self::Frames => "more than 512 forms open in one term",
             Self::SurfaceFull => "surface row table full",
             Self::DeclarationsFull => "declaration list full",
             Self::CoreShort => "core table has fewer rows than were read",
             Self::WorkShort => "work area under 16,384 words",
             Self::NoDeclaration => "no declaration at a place asked of",
+            Self::CoreText => "malformed or noncanonical core text",
+            Self::TextShort => "text buffer shorter than the text",
         })
     }
 }
 
-/// A refused source: its class and, for [`Class::Malformed`] and [`Class::ReservedName`], an offset in the source.
+/// A refused source or core text: its class and, for [`Class::Malformed`], [`Class::ReservedName`] and mostly for
+/// [`Class::CoreText`], an offset in it.
 ///
 /// It is shown as the listing shows it, with a sentence behind:
 ///

@@ -1,9 +1,9 @@
 //! The tables that are lent.
-use crate::{LONGEST_SOURCE, RECORD_WORDS, ROW_WORDS, WORK_WORDS};
+use crate::{LONGEST_SOURCE, LONGEST_TEXT, RECORD_WORDS, ROW_WORDS, WORK_WORDS};
 use alloc::vec;
 use alloc::vec::Vec;
 
-/// The tables that a source is loaded into, in words of 32 bits.
+/// The tables that a source is loaded into, or a core text read into, in words of 32 bits.
 ///
 /// They may be owned (`Tables`, which is `Tables<Vec<u32>>`) or lent by someone else (`Tables<&mut [u32]>`), have any
 /// lengths and hold anything. They can be used again for the next source. [`Loader`](crate::Loader) has tables of its
@@ -32,12 +32,7 @@ impl Tables {
     /// Tables for so many rows and declarations, all words 0.
     #[must_use]
     pub fn with_sizes(rows: usize, declarations: usize) -> Self {
-        Self {
-            surface: vec![0; rows * ROW_WORDS],
-            core: vec![0; rows * ROW_WORDS],
-            declarations: vec![0; declarations * RECORD_WORDS],
-            work: vec![0; WORK_WORDS],
-        }
+        Sizes { surface: rows, core: rows, declarations }.tables()
     }
 
     /// Tables that suffice for every source of so many bytes: a term has at least 3 and a declaration at least 17.
@@ -45,20 +40,26 @@ impl Tables {
     /// Most sources need much less. Spare words are set to 0 by every load, which takes time.
     #[must_use]
     pub fn for_bytes(bytes: usize) -> Self {
-        let Sizes { rows, declarations } = Sizes::most(bytes);
-        Self::with_sizes(rows, declarations)
+        Needs::of_source(bytes).most.tables()
+    }
+
+    /// Tables that suffice for every core text of so many bytes: in it too a term has at least 3 and a declaration at
+    /// least 17. There are no surface rows.
+    #[must_use]
+    pub fn for_text(bytes: usize) -> Self {
+        Needs::of_text(bytes).most.tables()
     }
 
     pub(crate) const fn empty() -> Self {
         Self { surface: Vec::new(), core: Vec::new(), declarations: Vec::new(), work: Vec::new() }
     }
 
-    /// The beginnings of the tables that have so many rows and declarations. They grow where they are shorter; spare
-    /// words are not lent, so that nothing has to be set to 0 there.
-    pub(crate) fn grown(&mut self, Sizes { rows, declarations }: Sizes) -> Tables<&mut [u32]> {
+    /// The beginnings of the tables that have these sizes. They grow where they are shorter; spare words are not lent, so
+    /// that nothing has to be set to 0 there.
+    pub(crate) fn grown(&mut self, Sizes { surface, core, declarations }: Sizes) -> Tables<&mut [u32]> {
         Tables {
-            surface: beginning(&mut self.surface, rows * ROW_WORDS),
-            core: beginning(&mut self.core, rows * ROW_WORDS),
+            surface: beginning(&mut self.surface, surface * ROW_WORDS),
+            core: beginning(&mut self.core, core * ROW_WORDS),
             declarations: beginning(&mut self.declarations, declarations * RECORD_WORDS),
             work: beginning(&mut self.work, WORK_WORDS),
         }
@@ -73,24 +74,47 @@ fn beginning(table: &mut Vec<u32>, words: usize) -> &mut [u32] {
     &mut table[..words]
 }
 
-/// How many rows and declarations there is room for.
+/// How many rows of each kind and declarations there is room for.
 #[derive(Clone, Copy, Debug, Eq, PartialEq)]
 pub(crate) struct Sizes {
-    pub rows: usize,
+    pub surface: usize,
+    pub core: usize,
     pub declarations: usize,
 }
 
 impl Sizes {
-    /// The most that a source of so many bytes can have.
-    pub fn most(bytes: usize) -> Self {
+    fn tables(self) -> Tables {
+        Tables {
+            surface: vec![0; self.surface * ROW_WORDS],
+            core: vec![0; self.core * ROW_WORDS],
+            declarations: vec![0; self.declarations * RECORD_WORDS],
+            work: vec![0; WORK_WORDS],
+        }
+    }
+}
+
+/// What a source or a core text needs.
+#[derive(Clone, Copy, Debug, Eq, PartialEq)]
+pub(crate) struct Needs {
+    /// What most of that length need at most.
+    pub likely: Sizes,
+    /// The most that one of that length can need.
+    pub most: Sizes,
+}
+
+impl Needs {
+    /// Of a source of so many bytes.
+    pub fn of_source(bytes: usize) -> Self {
         let bytes = bytes.min(LONGEST_SOURCE);
-        Self { rows: bytes / 3, declarations: bytes / 17 }
+        let sizes = |rows, declarations| Sizes { surface: rows, core: rows, declarations };
+        Self { likely: sizes(bytes / 6, bytes / 32), most: sizes(bytes / 3, bytes / 17) }
     }
 
-    /// What most sources of so many bytes have at most.
-    pub fn likely(bytes: usize) -> Self {
-        let bytes = bytes.min(LONGEST_SOURCE);
-        Self { rows: bytes / 6, declarations: bytes / 32 }
+    /// Of a core text of so many bytes. One that is too long needs nothing: it is refused unread.
+    pub fn of_text(bytes: usize) -> Self {
+        let bytes = if bytes > LONGEST_TEXT { 0 } else { bytes };
+        let sizes = |core, declarations| Sizes { surface: 0, core, declarations };
+        Self { likely: sizes(bytes / 6, bytes / 32), most: sizes(bytes / 3, bytes / 17) }
     }
 }
 

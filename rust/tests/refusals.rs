@@ -93,13 +93,17 @@ fn shown_as_the_listing_shows_them_and_a_sentence() {
     assert_eq!(shown(at(Class::ReservedName, 0)), "refused 3 at 0: reserved word where a name must stand");
     assert_eq!(shown(nowhere(Class::DuplicateName)), "refused 4: declaration name used before");
     assert_eq!(shown(nowhere(Class::UnknownName)), "refused 5: unknown name");
-    assert_eq!(shown(nowhere(Class::LongSource)), "refused 6: source over 65,535 bytes");
+    let long = "source over 65,535 bytes, or core text over 4,294,967,295";
+    assert_eq!(shown(nowhere(Class::LongSource)), format!("refused 6: {long}"));
     assert_eq!(shown(nowhere(Class::Frames)), "refused 7: more than 512 forms open in one term");
     assert_eq!(shown(nowhere(Class::SurfaceFull)), "refused 8: surface row table full");
     assert_eq!(shown(nowhere(Class::DeclarationsFull)), "refused 9: declaration list full");
     assert_eq!(shown(nowhere(Class::CoreShort)), "refused 10: core table has fewer rows than were read");
     assert_eq!(shown(nowhere(Class::WorkShort)), "refused 11: work area under 16,384 words");
     assert_eq!(shown(nowhere(Class::NoDeclaration)), "refused 12: no declaration at a place asked of");
+    assert_eq!(shown(at(Class::CoreText, 7)), "refused 13 at 7: malformed or noncanonical core text");
+    assert_eq!(shown(nowhere(Class::CoreText)), "refused 13: malformed or noncanonical core text");
+    assert_eq!(shown(nowhere(Class::TextShort)), "refused 14: text buffer shorter than the text");
 }
 
 #[test]

@@ -31,6 +31,10 @@ fn as_long_as_asked() {
     assert_eq!(lengths, [4 * ROW_WORDS, 4 * ROW_WORDS, 2 * RECORD_WORDS, WORK_WORDS]);
     assert_eq!(Tables::for_bytes(LONGEST_SOURCE), Tables::with_sizes(21_845, 3_855));
     assert_eq!(Tables::for_bytes(usize::MAX), Tables::for_bytes(LONGEST_SOURCE));
+    let lengths = Tables::for_text(LONGEST_SOURCE).into_words().map(|words| words.len());
+    assert_eq!(lengths, [0, 21_845 * ROW_WORDS, 3_855 * RECORD_WORDS, WORK_WORDS]);
+    // what is refused unread needs nothing
+    assert_eq!(Tables::for_text(usize::MAX), Tables::for_text(0));
 }
 
 #[test]

@@ -199,11 +199,121 @@ pub const LISTING: [&str; 15] = [
     "usage-with-status-0",
 ];
 
+/// Of printing core text.
+pub const PRINTING: [&str; 22] = [
+    "semantic-head",
+    "space-behind-declarations",
+    "no-newline-behind-the-text",
+    "names-without-quotes",
+    "transparent-printed-as-opaque",
+    "body-for-a-postulate",
+    "type-for-body",
+    "children-from-behind",
+    "binder-in-the-text",
+    "var-printed-as-global",
+    "counts-of-one-digit",
+    "universe-digits-from-the-term",
+    // the answer, the buffer and the tables
+    "length-without-the-last-byte",
+    "fourteen-before-loading",
+    "fourteen-at-the-exact-length",
+    "fourteen-tells-the-length",
+    "text-cut",
+    "buffer-not-cleared",
+    "buffer-left-after-fourteen",
+    "buffer-left-after-refusal",
+    "tables-left-after-fourteen",
+    "tables-cleared-by-printing",
+];
+
+/// Of reading core text: before the first token, tokens and strings, the head, reading and its limits, names, the
+/// canonical reader, rows and records, and the tables.
+pub const READING: [&str; 71] = [
+    "core-eleven-left-out",
+    "core-eleven-after-utf8",
+    "core-six-over-65535",
+    "core-utf8-as-1",
+    "core-utf8-after-reading",
+    "core-mark-skipped",
+    // tokens and strings
+    "comment-taken",
+    "semicolon-ends-an-atom",
+    "core-bytes-11-12-layout",
+    "byte-127-in-atoms",
+    "core-refused-at-atom-start",
+    "atom-goes-over-quote",
+    "string-needs-layout",
+    "string-refused-before-it-is-read",
+    "empty-string-taken",
+    "unclosed-string-at-the-end",
+    "control-bytes-taken",
+    "byte-127-in-strings",
+    "later-controls-taken",
+    "no-break-space-refused",
+    "four-bytes-refused",
+    "forbidden-at-the-quote",
+    "any-escape-taken",
+    "escape-refused-behind-the-backslash",
+    "names-are-identifiers",
+    "reserved-names-refused",
+    "core-leading-zero",
+    "core-numeral-of-32-bits",
+    // the head
+    "core-version-before-parenthesis",
+    "core-version-with-offset",
+    "version-behind-format",
+    "format-version-not-compared",
+    "theory-name-not-compared",
+    "theory-version-not-compared",
+    // reading
+    "var-out-of-range-refused",
+    "global-out-of-range-refused",
+    "numeral-term-is-a-frame",
+    "core-seven-one-early",
+    "core-seven-one-late",
+    "core-seven-before-tag",
+    "core-seven-at-the-argument",
+    "core-frames-of-type-and-body",
+    "core-nine-after-tag",
+    "core-nine-at-any-token",
+    "core-ten-after-reading",
+    "core-ten-before-parenthesis",
+    "core-ten-with-space-left",
+    "nothing-behind-the-end",
+    // names used twice
+    "duplicate-taken",
+    "duplicate-refused-as-four",
+    "duplicate-at-its-name",
+    "duplicate-before-the-end",
+    "duplicates-by-length",
+    "duplicates-by-8-bytes",
+    // the canonical reader
+    "canonical-takes-any-layout",
+    "canonical-without-newline",
+    "canonical-with-offset",
+    "canonical-before-duplicates",
+    "every-text-canonical",
+    // rows and records
+    "name-with-quotes",
+    "escapes-counted-out",
+    "numeral-by-value",
+    "numeral-by-its-ends",
+    "core-offset-of-the-tag",
+    "core-row-without-offset",
+    "postulate-with-its-type-as-body",
+    // what is left in the tables
+    "core-rows-left",
+    "core-records-left",
+    "core-words-left",
+    "core-work-left",
+    "core-left-after-refusal",
+];
+
 pub fn fault() -> &'static str {
     static FAULT: OnceLock<String> = OnceLock::new();
     FAULT.get_or_init(|| {
         let name = std::env::var("FAULT").unwrap_or_default();
-        let known = [&TEXT[..], &LOADING, &DEPENDENCE, &SAME, &LISTING].concat();
+        let known = [&TEXT[..], &LOADING, &DEPENDENCE, &SAME, &LISTING, &PRINTING, &READING].concat();
         assert!(name.is_empty() || known.contains(&name.as_str()), "no fault is called {name}");
         name
     })

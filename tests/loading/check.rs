@@ -33,7 +33,7 @@ pub fn answer_numbers(expected: &Result<&Content, Refusal>) -> (u8, [u64; 3]) {
     }
 }
 
-fn compare_answers(expected: &Result<&Content, Refusal>, loaded: &Loaded) -> Option<Mismatch> {
+pub fn compare_answers(expected: &Result<&Content, Refusal>, loaded: &Loaded) -> Option<Mismatch> {
     let (class, answer) = answer_numbers(expected);
     differ("answer", format!("{class} {answer:?}"), format!("{} {:?}", loaded.class, loaded.answer))
 }

@@ -5,7 +5,7 @@ use super::check::loaded;
 use super::edges;
 use super::expected::Reference;
 use super::generated::{module, printed, small};
-use super::short::{by_bytes, by_tokens};
+use super::short::{self, by_bytes, by_tokens};
 use super::sizes::{enough, random};
 use super::station::Loaded;
 use super::tables::{Rubbish, Sizes};
@@ -29,10 +29,10 @@ pub fn run(count: usize, seed: u64) -> ExitCode {
             break;
         }
     }
-    let length = by_tokens(count, |source| comparison.compare(source));
+    let length = by_tokens(short::tokens(), count, |source| comparison.compare(source));
     println!("all sources of up to {length} tokens behind each of four beginnings");
     let longest = if count < 100_000 { 2 } else { 4 };
-    by_bytes(longest, |source| {
+    by_bytes(short::bytes(), longest, |source| {
         comparison.compare(source);
     });
     println!("all strings of up to {longest} of 16 bytes behind each of five beginnings");

@@ -25,7 +25,7 @@ fn at_most_one(value: Option<usize>) -> [u64; 3] {
     value.map_or([0; 3], |value| [1, value as u64, 0])
 }
 
-fn numbers(told: Result<[u64; 3], Refusal>, answer: &mut [u64; 3]) -> u8 {
+pub fn numbers(told: Result<[u64; 3], Refusal>, answer: &mut [u64; 3]) -> u8 {
     match told {
         Ok(values) => {
             *answer = values;

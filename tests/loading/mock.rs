@@ -54,7 +54,7 @@ pub fn depends(source: &[u8], places: [usize; 2], mut lent: Tables<&mut [u32]>, 
 }
 
 /// Writes the values of an answer, and gives its class.
-fn report(outcome: Result<Vec<usize>, Refusal>, answer: &mut [u64; 3]) -> u8 {
+pub fn report(outcome: Result<Vec<usize>, Refusal>, answer: &mut [u64; 3]) -> u8 {
     let (class, values) = match outcome {
         Ok(values) => (0, values),
         Err(Refusal { class, offset }) => (class, offset.into_iter().collect()),

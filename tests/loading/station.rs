@@ -20,7 +20,7 @@ pub struct Loaded {
 }
 
 /// So many words before and behind each table are not lent and must stay.
-const GUARD: usize = 8;
+pub const GUARD: usize = 8;
 const GUARD_WORD: u32 = 0x5a5a_5a5a;
 
 pub fn load(source: &[u8], sizes: Sizes, rubbish: Rubbish) -> Loaded {
@@ -43,7 +43,8 @@ pub fn same(sources: [&[u8]; 2], sizes: [Sizes; 2], rubbish: Rubbish) -> [Loaded
     [first, second]
 }
 
-fn lend(sizes: Sizes, rubbish: Rubbish, call: impl FnOnce(Tables<&mut [u32]>, &mut [u64; 3]) -> u8) -> Loaded {
+/// Lends tables of these sizes to a call.
+pub fn lend(sizes: Sizes, rubbish: Rubbish, call: impl FnOnce(Tables<&mut [u32]>, &mut [u64; 3]) -> u8) -> Loaded {
     let mut tables = sizes.map(|words| guarded(rubbish, words));
     let mut answer = [u64::MAX; 3];
     let class = call(tables.each_mut().map(|words| lent(words)), &mut answer);

@@ -1,10 +1,13 @@
-//! The Rust's answers: loading as values and as lines of text, tokens, words, UTF-8.
+//! The Rust's answers: loading as values and as lines of text, core text, tokens, words, UTF-8.
 //! Only the public interface of the reference library is used, so that rows are those that a caller sees.
 pub mod rows;
 
 use common::refusal::Refusal;
 use common::tokens::{self, Kind, Token};
 use common::unicode::MARK;
+use hott_kernel::error::{FormatError, FormatErrorClass};
+use hott_kernel::format::parser::{parse_canonical, parse_transport};
+use hott_kernel::format::printer::print_canonical;
 use hott_kernel::surface::{SurfaceError, SurfaceErrorClass, SurfaceModule, elaborate_surface, parse_surface};
 use hott_kernel::syntax::Module;
 use hott_kernel::{Lexed, ParserParts};
@@ -31,6 +34,31 @@ fn refusal(error: SurfaceError) -> Refusal {
         SurfaceErrorClass::DuplicateGlobalDeclarationName => 4,
         SurfaceErrorClass::UnknownName => 5,
         other => panic!("document 01 has no number for {other:?}"),
+    };
+    Refusal { class, offset: error.offset() }
+}
+
+/// The core text of a module.
+pub fn print(module: &Module) -> Vec<u8> {
+    print_canonical(module).expect("memory suffices")
+}
+
+/// The module of a core text in any layout; or 2, or 13 with its offset.
+pub fn read_core(text: &[u8]) -> Result<Module, Refusal> {
+    parse_transport(text).map_err(core_refusal)
+}
+
+/// The module of a core text that is its own print, else 13 without an offset.
+pub fn read_canonical(text: &[u8]) -> Result<Module, Refusal> {
+    parse_canonical(text).map_err(core_refusal)
+}
+
+/// "13: core text that the Rust refuses for a class other than version or exhausted memory"
+fn core_refusal(error: FormatError) -> Refusal {
+    let class = match error.class() {
+        FormatErrorClass::UnsupportedVersion => 2,
+        FormatErrorClass::ResourceExhausted => panic!("memory suffices"),
+        _ => 13,
     };
     Refusal { class, offset: error.offset() }
 }

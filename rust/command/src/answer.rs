@@ -9,7 +9,7 @@ pub enum Status {
     Yes = 0,
     /// No, different.
     No = 1,
-    /// A source is refused.
+    /// A source or a core text is refused.
     Refused = 2,
     /// The question could not be asked, or its answer not be told.
     NotAsked = 3,

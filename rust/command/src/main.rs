@@ -4,6 +4,7 @@ mod questions;
 mod sentence;
 mod source;
 mod standard;
+mod text_sentence;
 mod usage;
 
 use answer::{Answer, NotAsked, Status};

@@ -2,6 +2,7 @@
 use crate::answer::{Answer, NotAsked, Status};
 use crate::sentence;
 use crate::source::Source;
+use crate::text_sentence;
 use std::ffi::OsStr;
 use std::fmt::Write;
 use std::path::Path;
@@ -10,6 +11,9 @@ use sulyterom::{Class, Comparison, LONGEST_SOURCE, Loaded, Loader, Refusal, Tabl
 /// "It lends 1,024 rows to each row table, 256 declarations and a work area of 16,384 words."
 pub const ROWS: usize = 1_024;
 pub const DECLARATIONS: usize = 256;
+
+/// Bytes of the longest core text that this program holds. With the tables for it that is some 300 MB.
+pub const LONGEST_HELD: usize = 16 << 20;
 
 /// The tables that are lent.
 #[derive(Clone, Copy, Debug, Eq, PartialEq)]
@@ -152,6 +156,39 @@ pub fn same(one: &OsStr, other: &OsStr) -> Result<Answer, NotAsked> {
         }
         Comparison::FirstRefused(refusal) => refused("first", &first, refusal),
         Comparison::SecondRefused(refusal) => refused("second", &second, refusal),
+    })
+}
+
+pub fn core(file: &OsStr) -> Result<Answer, NotAsked> {
+    let source = Source::read(file)?;
+    Ok(match Loader::new().print(&source.bytes) {
+        Ok(text) => Answer::new(Status::Yes, text),
+        Err(refusal) => refused(&source, refusal, Storage::Large),
+    })
+}
+
+/// Which core texts are taken.
+#[derive(Clone, Copy, Debug, Eq, PartialEq)]
+pub enum Layout {
+    /// Those in any layout.
+    Any,
+    /// Those that are their own print.
+    Canonical,
+}
+
+pub fn read_core(layout: Layout, file: &OsStr) -> Result<Answer, NotAsked> {
+    let text = Source::read_over(file, LONGEST_HELD)?;
+    if text.bytes.len() > LONGEST_HELD {
+        return Ok(Answer::refused("", text_sentence::too_long(&text)));
+    }
+    let mut loader = Loader::new();
+    let read = match layout {
+        Layout::Any => loader.read_core(&text.bytes),
+        Layout::Canonical => loader.read_canonical(&text.bytes),
+    };
+    Ok(match read {
+        Ok(read) => Answer::new(Status::Yes, read.to_string()),
+        Err(refusal) => Answer::refused(refusal_line(refusal), text_sentence::of(&text, refusal)),
     })
 }
 

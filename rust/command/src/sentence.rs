@@ -9,11 +9,15 @@ use sulyterom::{Class, LONGEST_SOURCE, Loader, MOST_FRAMES, Refusal, Token, Toke
 const LONGEST_SHOWN: usize = 80;
 
 /// Where something is, if it is anywhere, and what.
-type Told = (Option<usize>, String);
+pub type Told = (Option<usize>, String);
+
+/// Why a source is refused.
+pub fn of(source: &Source, refusal: Refusal, storage: Storage) -> String {
+    placed(source, why(source, refusal, storage))
+}
 
 /// `FILE:LINE:COLUMN: WHY; WHAT TO DO`, or without a place.
-pub fn of(source: &Source, refusal: Refusal, storage: Storage) -> String {
-    let (at, why) = why(source, refusal, storage);
+pub fn placed(source: &Source, (at, why): Told) -> String {
     match at {
         Some(at) => format!("{}:{}: {why}", source.name, source.position(at)),
         None => format!("{}: {why}", source.name),
@@ -32,10 +36,7 @@ fn why(source: &Source, refusal: Refusal, storage: Storage) -> Told {
         Class::LongSource => {
             (None, format!("the source has over {LONGEST_SOURCE} bytes; divide it into modules of their own"))
         }
-        Class::Frames => {
-            let why = format!("over {MOST_FRAMES} forms are open here in one type or body");
-            (met(), format!("{why}; make an inner part a declaration of its own"))
-        }
+        Class::Frames => (met(), too_deep()),
         Class::SurfaceFull => {
             (met(), format!("the source has over {ROWS} terms; 'sulyterom list --large' lends room for more"))
         }
@@ -49,17 +50,43 @@ fn why(source: &Source, refusal: Refusal, storage: Storage) -> Told {
 
 /// A token as it is written, or the beginning of a long one.
 fn text(source: &[u8], token: Token) -> String {
-    let bytes = &source[token.start..token.end];
+    shown(&source[token.start..token.end])
+}
+
+/// Bytes as they are written, or the beginning of many.
+pub fn shown(bytes: &[u8]) -> String {
     let shown = String::from_utf8_lossy(&bytes[..bytes.len().min(LONGEST_SHOWN)]);
     if bytes.len() > LONGEST_SHOWN { format!("{shown}..") } else { shown.into_owned() }
 }
 
-fn malformed(source: &[u8], at: usize) -> String {
-    if std::str::from_utf8(source).is_err_and(|error| error.valid_up_to() == at) {
-        return format!("byte {:02X} is no UTF-8 here; save the file as UTF-8", source[at]);
+pub fn too_deep() -> String {
+    format!("over {MOST_FRAMES} forms are open here in one type or body; make an inner part a declaration of its own")
+}
+
+/// A name at a place, which stands at an earlier one too.
+pub fn declared_before(source: &Source, name: &[u8], first: usize, at: usize) -> Told {
+    let why = format!("'{}' is declared before, at {}", shown(name), source.position(first));
+    (Some(at), format!("{why}; give one of the two another name"))
+}
+
+/// What is wrong with a file's encoding at an offset, if that is it.
+pub fn encoding(bytes: &[u8], at: usize) -> Option<String> {
+    if std::str::from_utf8(bytes).is_err_and(|error| error.valid_up_to() == at) {
+        return Some(format!("byte {:02X} is no UTF-8 here; save the file as UTF-8", bytes[at]));
     }
-    if at == 0 && source.starts_with(b"\xef\xbb\xbf") {
-        return String::from("the file begins with a byte order mark; save it without");
+    let marked = at == 0 && bytes.starts_with(b"\xef\xbb\xbf");
+    marked.then(|| String::from("the file begins with a byte order mark; save it without"))
+}
+
+/// A byte, and the character that it is if that can be seen.
+pub fn byte(byte: u8) -> String {
+    let shown = if byte.is_ascii_graphic() { format!(" ('{}')", char::from(byte)) } else { String::new() };
+    format!("byte {byte:02X}{shown}")
+}
+
+fn malformed(source: &[u8], at: usize) -> String {
+    if let Some(why) = encoding(source, at) {
+        return why;
     }
     match token(source, at) {
         Ok(Token { kind: TokenKind::End, .. }) => {
@@ -68,11 +95,7 @@ fn malformed(source: &[u8], at: usize) -> String {
         Ok(token) if token.start == at => {
             format!("'{}' does not fit here; docs/REFERENCE.md has the forms", text(source, token))
         }
-        _ => {
-            let byte = source[at];
-            let shown = if byte.is_ascii_graphic() { format!(" ('{}')", char::from(byte)) } else { String::new() };
-            format!("byte {byte:02X}{shown} can stand in comments only; take it away")
-        }
+        _ => format!("{} can stand in comments only; take it away", byte(source[at])),
     }
 }
 
@@ -96,8 +119,7 @@ fn duplicate(source: &Source) -> Told {
     for Named { name, .. } in named(bytes, &["postulate", "transparent", "opaque"]) {
         let first = *seen.entry(&bytes[name.start..name.end]).or_insert(name.start);
         if first != name.start {
-            let why = format!("'{}' is declared before, at {}", text(bytes, name), source.position(first));
-            return (Some(name.start), format!("{why}; give one of the two another name"));
+            return declared_before(source, &bytes[name.start..name.end], first, name.start);
         }
     }
     (None, Class::DuplicateName.to_string())
@@ -156,7 +178,7 @@ fn met(source: &[u8], class: Class, storage: Storage) -> Option<Token> {
 }
 
 /// The first number under `count` for which the test holds, if it then holds for all above; else `count`.
-fn partition(count: usize, mut holds: impl FnMut(usize) -> bool) -> usize {
+pub fn partition(count: usize, mut holds: impl FnMut(usize) -> bool) -> usize {
     let (mut low, mut high) = (0, count);
     while low < high {
         let middle = low.midpoint(high);

@@ -1,4 +1,4 @@
-//! The sources that a question is asked of.
+//! The sources and core texts that a question is asked of.
 use crate::answer::NotAsked;
 use crate::standard;
 use std::ffi::OsStr;
@@ -8,7 +8,7 @@ use std::io::{self, Read};
 use std::path::Path;
 use sulyterom::LONGEST_SOURCE;
 
-/// A source and the name of its file.
+/// A source or a core text, and the name of its file.
 pub struct Source {
     pub name: String,
     pub bytes: Vec<u8>,
@@ -16,7 +16,7 @@ pub struct Source {
     lines: Vec<usize>,
 }
 
-/// A place in a source: lines count from 1 and end at byte 10, columns count bytes from 1.
+/// A place in it: lines count from 1 and end at byte 10, columns count bytes from 1.
 pub struct Position {
     pub line: usize,
     pub column: usize,
@@ -31,13 +31,18 @@ impl Source {
 
     /// The source in a file, or on standard input for `-`.
     pub fn read(file: &OsStr) -> Result<Self, NotAsked> {
+        Self::read_over(file, LONGEST_SOURCE)
+    }
+
+    /// The same, up to a byte over so many.
+    pub fn read_over(file: &OsStr, longest: usize) -> Result<Self, NotAsked> {
         let (name, opened) = if file == "-" {
-            (String::from("standard input"), standard::input().and_then(|input| beginning(&*input)))
+            (String::from("standard input"), standard::input().and_then(|input| beginning(&*input, longest)))
         } else {
             let name = Path::new(file).display().to_string();
             let input =
                 File::open(file).map_err(|error| NotAsked(format!("cannot open {name}: {}", reason(&error))))?;
-            (name, beginning(&input))
+            (name, beginning(&input, longest))
         };
         match opened {
             Ok(bytes) => Ok(Self::new(name, bytes)),
@@ -57,11 +62,11 @@ impl fmt::Display for Position {
     }
 }
 
-/// All bytes, but no more than a byte over what a source may have: it is then refused without reading on. A call that a
+/// All bytes, but no more than a byte over so many: what is longer is then refused without reading on. A call that a
 /// signal interrupts is made again.
-fn beginning(input: impl Read) -> io::Result<Vec<u8>> {
+fn beginning(input: impl Read, longest: usize) -> io::Result<Vec<u8>> {
     let mut bytes = Vec::new();
-    input.take(LONGEST_SOURCE as u64 + 1).read_to_end(&mut bytes)?;
+    input.take(longest as u64 + 1).read_to_end(&mut bytes)?;
     Ok(bytes)
 }
 
@@ -95,14 +100,14 @@ mod tests {
 
     #[test]
     fn interrupted_calls_are_made_again_and_a_fault_is_no_end() {
-        assert_eq!(beginning(Slow(b"(surface".to_vec(), false, false)).unwrap(), b"(surface");
-        let fault = beginning(Slow(b"(surface".to_vec(), false, true)).unwrap_err();
+        assert_eq!(beginning(Slow(b"(surface".to_vec(), false, false), 9).unwrap(), b"(surface");
+        let fault = beginning(Slow(b"(surface".to_vec(), false, true), 9).unwrap_err();
         assert_eq!(fault.kind(), io::ErrorKind::BrokenPipe);
     }
 
     #[test]
-    fn no_more_than_a_byte_over_the_longest_source() {
-        assert_eq!(beginning(io::repeat(b' ')).unwrap().len(), LONGEST_SOURCE + 1);
+    fn no_more_than_a_byte_over_the_longest() {
+        assert_eq!(beginning(io::repeat(b' '), LONGEST_SOURCE).unwrap().len(), LONGEST_SOURCE + 1);
     }
 
     #[test]

@@ -1,6 +1,6 @@
 //! The words of the command line.
 use crate::answer::{Answer, NotAsked, Status};
-use crate::questions::{self, Declaration, Storage};
+use crate::questions::{self, Declaration, Layout, Storage};
 use std::ffi::{OsStr, OsString};
 use std::path::Path;
 
@@ -19,6 +19,8 @@ pub enum Question<'a> {
     Depends(&'a OsStr, Declaration<'a>, Declaration<'a>),
     Same(&'a OsStr, &'a OsStr),
     Tokens(&'a OsStr),
+    Core(&'a OsStr),
+    ReadCore(Layout, &'a OsStr),
 }
 
 /// The question that the words ask.
@@ -35,6 +37,11 @@ pub fn parsed(words: &[OsString]) -> Result<Question<'_>, NotAsked> {
         ("rows", [file]) => Ok(Question::Rows(file)),
         ("references", [file]) => Ok(Question::References(file)),
         ("tokens", [file]) => Ok(Question::Tokens(file)),
+        ("core", [file]) => Ok(Question::Core(file)),
+        ("readcore", [file, canonical] | [canonical, file]) if *canonical == "--canonical" => {
+            Ok(Question::ReadCore(Layout::Canonical, file))
+        }
+        ("readcore", [file]) => Ok(Question::ReadCore(Layout::Any, file)),
         ("same", [one, other]) => Ok(Question::Same(one, other)),
         ("depends", [file, i, j]) => Ok(Question::Depends(file, Declaration::named(i)?, Declaration::named(j)?)),
         (known, _) => Err(misused(known, word)),
@@ -63,6 +70,8 @@ impl Question<'_> {
             Self::Depends(file, i, j) => questions::depends(file, i, j),
             Self::Same(one, other) => questions::same(one, other),
             Self::Tokens(file) => questions::tokens(file),
+            Self::Core(file) => questions::core(file),
+            Self::ReadCore(layout, file) => questions::read_core(layout, file),
         }
     }
 }
