@@ -1,18 +1,16 @@
 // The dependence question of document 01: a source is loaded, and the rows of one declaration are searched for a global row of another.
+use loader::clear_all;
+use loader::nowhere_12;
 use rows::first_row;
 use rows::row_behind;
 use surface::Answer;
 use surface::Dependence;
-use tables::clear_from;
 use tables::word_at;
-use token::Place;
 use token::Refusal;
 ghost use mathlib.Core.Path.{_≡_};
 ghost use mathlib.Core.Bool.{_&&_};
 ghost use lib.Dec.{ltb};
 ghost use Prim.Native.Nat.{_-_};
-ghost use Rattle.tables.specs.Tables.{cleared};
-ghost use Rattle.surface.specs.Reader.{nowhere};
 ghost use Rattle.surface.specs.declared.Dependence as Dependence;
 ghost use Rattle.surface.specs.Tables.{tables};
 ghost use Rattle.surface.specs.Dependence.{Asks};
@@ -71,27 +69,6 @@ fn refused_by_loading(refusal: Refusal) -> Dependence
     ensures { λ r. ⌜ r ≡ Dependence.Refused refusal ⌝ }
 {
     Dependence::Refused(refusal)
-}
-
-fn nowhere_12() -> Refusal
-    ensures { λ r. ⌜ r ≡ nowhere 12 ⌝ }
-{
-    Refusal {
-        class: 12,
-        place: Place::Nowhere,
-    }
-}
-
-fn clear_all(surface: &mut [u32], core: &mut [u32], declarations: &mut [u32], work: &mut [u32])
-    ensures { λ r. ⌜ now (surface .exit) ≡ cleared (now (surface .entry)) 0 ⌝ }
-    ensures { λ r. ⌜ now (core .exit) ≡ cleared (now (core .entry)) 0 ⌝ }
-    ensures { λ r. ⌜ now (declarations .exit) ≡ cleared (now (declarations .entry)) 0 ⌝ }
-    ensures { λ r. ⌜ now (work .exit) ≡ cleared (now (work .entry)) 0 ⌝ }
-{
-    clear_from(surface, 0);
-    clear_from(core, 0);
-    clear_from(declarations, 0);
-    clear_from(work, 0);
 }
 
 // Whether declaration i depends on j. A yes or a no leaves the tables as loading does, a refusal leaves 0 in all of them.

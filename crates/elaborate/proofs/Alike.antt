@@ -12,18 +12,17 @@ use Rattle.terms.specs.Label.{Name, part, Label}
 use Rattle.terms.specs.Resolution.{find, Core, kept, var, global, unknown, referent, core-of, covers, locals-in, is-unknown}
 use Rattle.terms.specs.Rows.{row, span, core-kind, core-fields, core-words}
 use Rattle.terms.proofs.Spans.{core-of-ref, core-of-kept}
-use Rattle.scope.specs.Scope.{reference}
-use Rattle.elaborate.proofs.Covering.{covers-none}
+use Rattle.rows.proofs.Covering.{covers-none}
 
 -- Which kinds have a span: those of a reference, a universe, and what covers an argument.
-spans : (holds-span ref ≡ true) × (holds-span universe ≡ true) × (holds-span pi ≡ true) × (holds-span sigma ≡ true) × (holds-span lam ≡ true)
+pub spans : (holds-span ref ≡ true) × (holds-span universe ≡ true) × (holds-span pi ≡ true) × (holds-span sigma ≡ true) × (holds-span lam ≡ true)
 unfolding holds-span-in form-of-kind forms
 spans = (refl, refl, refl, refl, refl)
 
 not-both : {A : Type 0} (b : Bool) → b ≡ true → b ≡ false → A
 not-both b p q = absurd (let z : _≡_ {A = ℕ} 0 1 = ap (λ (x : Bool). cond x 0 1) (sym p ∙ q) in omega arith)
 
-span-covers : (k i : ℕ) → covers k i ≡ true → holds-span k ≡ true
+pub span-covers : (k i : ℕ) → covers k i ≡ true → holds-span k ≡ true
 span-covers k i h = go (ℕ-discrete k pi) (ℕ-discrete k sigma) (ℕ-discrete k lam)
   where
     go : Dec (k ≡ pi) → Dec (k ≡ sigma) → Dec (k ≡ lam) → holds-span k ≡ true
@@ -31,10 +30,6 @@ span-covers k i h = go (ℕ-discrete k pi) (ℕ-discrete k sigma) (ℕ-discrete 
     go (no p) (yes q) r = ap holds-span q ∙ spans .3
     go (no p) (no q) (yes r) = ap holds-span r ∙ spans .4
     go (no p) (no q) (no r) = not-both (covers k i) h (covers-none k i p q r)
-
--- A reference is resolved by the start and length of its name.
-pub reference-core : (s : List ℕ) (locals globals : List Name) (l : Label) → l .kind ≡ ref → core-of s locals globals (reference (l .start) (l .length)) ≡ core-of s locals globals l
-reference-core s locals globals l e = core-of-ref s locals globals (reference (l .start) (l .length)) refl ∙ sym (core-of-ref s locals globals l e)
 
 -- The label l' is read from the row of the label l.
 pub record Alike (l' l : Label) : Type 0 where

@@ -1,16 +1,15 @@
-mod Covering
 mod Scheduling
-mod Finishing
+pub mod Finishing
 pub mod Visiting
 mod Running
 mod Rooms
 mod Steps
 mod TermLoop
 mod Answers
-mod Alike
-mod RowWords
-mod TableRows
+pub mod Alike
+pub mod RowWords
+pub mod TableRows
 pub mod ResolvedTrees
-mod TreeRows
-mod ModuleRows
+pub mod TreeRows
+pub mod ModuleRows
 mod ModuleLoop

@@ -12,7 +12,7 @@ use Rattle.terms.specs.Resolution.{covers}
 use Rattle.rows.proofs.Arities.{arity-at-most-six}
 use Rattle.stacks.specs.declared.Work.{Work}
 use Rattle.elaborate.specs.Machine.{scheduled-one, scheduled, Room, form-weight, weight}
-use Rattle.elaborate.proofs.Covering.{covers-none}
+use Rattle.rows.proofs.Covering.{covers-none}
 
 -- How many work items an argument is, and the arguments from i on.
 abbrev pub items-one : Bool → ℕ
@@ -23,15 +23,15 @@ abbrev pub items : ℕ → ℕ → List ℕ → ℕ
 items k i [] = 0
 items k i (id ∷ ids) = items-one (covers k i) + items k (suc i) ids
 
-length-one : (b : Bool) (a n left id : ℕ) (works : List Work) → length (scheduled-one b a n left id works) ≡ items-one b + length works
-length-one true a n left id works = omega arith
-length-one false a n left id works = omega arith
+length-one : (b : Bool) (form left id : ℕ) (works : List Work) → length (scheduled-one b form left id works) ≡ items-one b + length works
+length-one true form left id works = omega arith
+length-one false form left id works = omega arith
 
-pub length-scheduled : (k a n left i : ℕ) (ids : List ℕ) (works : List Work) → length (scheduled k a n left i ids works) ≡ items k i ids + length works
+pub length-scheduled : (k form left i : ℕ) (ids : List ℕ) (works : List Work) → length (scheduled k form left i ids works) ≡ items k i ids + length works
 unfolding scheduled
-length-scheduled k a n left i [] works = omega arith
-length-scheduled k a n left i (id ∷ ids) works =
-    omega (arith, length-one (covers k i) a n left id (scheduled k a n left (suc i) ids works), length-scheduled k a n left (suc i) ids works)
+length-scheduled k form left i [] works = omega arith
+length-scheduled k form left i (id ∷ ids) works =
+    omega (arith, length-one (covers k i) form left id (scheduled k form left (suc i) ids works), length-scheduled k form left (suc i) ids works)
 
 -- A form's arguments are at most six items: only pi, sigma and lam cover an argument, and they have few.
 items-plain : (k i : ℕ) (ids : List ℕ) → ((j : ℕ) → covers k j ≡ false) → items k i ids ≡ length ids
@@ -70,40 +70,40 @@ items-few k ids e = go (ℕ-discrete k pi) (ℕ-discrete k sigma) (ℕ-discrete 
     go (no p) (no q) (yes r) = items-single k ids (e ∙ ap arity-of r ∙ arities .2)
     go (no p) (no q) (no r) = omega (arith, items-plain k 0 ids (λ j. covers-none k j p q r), arity-at-most-six k)
 
-room-one : (b : Bool) (a n left id : ℕ) (works : List Work) (v l : ℕ) → items-one b + length works + 7 * left ≤ 3585 → v + 5 * left ≤ 2560 → l + 1 + left ≤ 512
-    → Room works (v + 1) l → Room (scheduled-one b a n left id works) v l
+room-one : (b : Bool) (form left id : ℕ) (works : List Work) (v l : ℕ) → items-one b + length works + 7 * left ≤ 3585 → v + 5 * left ≤ 2560 → l + 1 + left ≤ 512
+    → Room works (v + 1) l → Room (scheduled-one b form left id works) v l
 unfolding Room
-room-one true a n left id works v l p q r h =
+room-one true form left id works v l p q r h =
     (omega arith, (omega arith, omega arith, omega arith, (omega arith, subst (λ (x : ℕ). Room works (v + 1) x) (let z : l ≡ l + 1 - 1 = omega arith in z) h)))
-room-one false a n left id works v l p q r h = (omega arith, omega arith, omega arith, h)
+room-one false form left id works v l p q r h = (omega arith, omega arith, omega arith, h)
 
-pub room-scheduled : (k a n left i : ℕ) (ids : List ℕ) (works : List Work) (v l : ℕ) → items k i ids + length works + 7 * left ≤ 3584 → v + length ids + 5 * left ≤ 2561
-    → l + 1 + left ≤ 512 → Room works (v + length ids) l → Room (scheduled k a n left i ids works) v l
+pub room-scheduled : (k form left i : ℕ) (ids : List ℕ) (works : List Work) (v l : ℕ) → items k i ids + length works + 7 * left ≤ 3584 → v + length ids + 5 * left ≤ 2561
+    → l + 1 + left ≤ 512 → Room works (v + length ids) l → Room (scheduled k form left i ids works) v l
 unfolding scheduled
-room-scheduled k a n left i [] works v l p q r h = subst (λ (x : ℕ). Room works x l) (omega arith) h
-room-scheduled k a n left i (id ∷ ids) works v l p q r h =
-    room-one (covers k i) a n left id (scheduled k a n left (suc i) ids works) v l
-    (omega (arith, length-scheduled k a n left (suc i) ids works)) (omega arith) r
-    (room-scheduled k a n left (suc i) ids works (v + 1) l (omega arith) (omega arith) r (subst (λ (x : ℕ). Room works x l) (omega arith) h))
+room-scheduled k form left i [] works v l p q r h = subst (λ (x : ℕ). Room works x l) (omega arith) h
+room-scheduled k form left i (id ∷ ids) works v l p q r h =
+    room-one (covers k i) form left id (scheduled k form left (suc i) ids works) v l
+    (omega (arith, length-scheduled k form left (suc i) ids works)) (omega arith) r
+    (room-scheduled k form left (suc i) ids works (v + 1) l (omega arith) (omega arith) r (subst (λ (x : ℕ). Room works x l) (omega arith) h))
 
-weight-one : (b : Bool) (a n left id : ℕ) (works : List Work) → weight (scheduled-one b a n left id works) ≤ form-weight left + 2 + weight works
+weight-one : (b : Bool) (form left id : ℕ) (works : List Work) → weight (scheduled-one b form left id works) ≤ form-weight left + 2 + weight works
 unfolding weight
-weight-one true a n left id works = omega arith
-weight-one false a n left id works = omega arith
+weight-one true form left id works = omega arith
+weight-one false form left id works = omega arith
 
-weight-scheduled : (k a n left i : ℕ) (ids : List ℕ) (works : List Work) → weight (scheduled k a n left i ids works) ≤ length ids * (form-weight left + 2) + weight works
+weight-scheduled : (k form left i : ℕ) (ids : List ℕ) (works : List Work) → weight (scheduled k form left i ids works) ≤ length ids * (form-weight left + 2) + weight works
 unfolding scheduled
-weight-scheduled k a n left i [] works = omega arith
-weight-scheduled k a n left i (id ∷ ids) works =
-    omega (arith, weight-one (covers k i) a n left id (scheduled k a n left (suc i) ids works), weight-scheduled k a n left (suc i) ids works, suc-mul (length ids) (form-weight left + 2))
+weight-scheduled k form left i [] works = omega arith
+weight-scheduled k form left i (id ∷ ids) works =
+    omega (arith, weight-one (covers k i) form left id (scheduled k form left (suc i) ids works), weight-scheduled k form left (suc i) ids works, suc-mul (length ids) (form-weight left + 2))
 
 pub weight-positive : (left : ℕ) → 0 < form-weight left
 unfolding form-weight
 weight-positive zero = omega arith
 weight-positive (suc left) = omega arith
 
-pub form-less : (k a n left : ℕ) (ids : List ℕ) (id : ℕ) (works : List Work) → length ids ≤ 6
-    → weight (scheduled k a n left 0 ids (Work.Build k id ∷ works)) < weight (Work.Eval id (suc left) ∷ works)
+pub form-less : (k left : ℕ) (ids : List ℕ) (id : ℕ) (works : List Work) → length ids ≤ 6
+    → weight (scheduled k id left 0 ids (Work.Build k id ∷ works)) < weight (Work.Eval id (suc left) ∷ works)
 unfolding weight form-weight
-form-less k a n left ids id works h =
-    omega (arith, weight-scheduled k a n left 0 ids (Work.Build k id ∷ works), mul-le-mul-right (form-weight left + 2) h)
+form-less k left ids id works h =
+    omega (arith, weight-scheduled k id left 0 ids (Work.Build k id ∷ works), mul-le-mul-right (form-weight left + 2) h)

@@ -1,5 +1,5 @@
 -- What a row of the surface table says of its term.
-use Prim.Native.Nat.{ℕ, zero, suc, _+_, _*_, _≤_, _<_}
+use Prim.Native.Nat.{ℕ, suc, _+_, _*_, _≤_, _<_}
 use mathlib.Core.Path.{_≡_, refl, sym, _∙_, ap}
 use mathlib.Core.List.{List, [], _∷_, _++_}
 use mathlib.Core.Bool.{Bool, true, false, cond}
@@ -34,7 +34,7 @@ first-word-of w t k r e h = ap (λ (i : ℕ). getD t i 0) (sym (add-zero (k * w)
 abbrev bounded : ℕ → Bool
 bounded k = leb (cond (holds-span k) (arity-of k + 4) (arity-of k)) 6
 
-arity-behind-span : (k : ℕ) → holds-span k ≡ true → arity-of k ≤ 2
+pub arity-behind-span : (k : ℕ) → holds-span k ≡ true → arity-of k ≤ 2
 unfolding forms form-of-kind arity-of holds-span-in
 arity-behind-span k e = elim (decLt k 25) [
   | yes h ↦
@@ -47,7 +47,7 @@ module _ (t : List ℕ) (id : ℕ) (l : Label) (ids : List ℕ) (e : place 8 t i
   abbrev fields : Bool → List ℕ
   fields b = cond b (span l) [] ++ ids
 
-  word : (b : Bool) → holds-span (l .kind) ≡ b → (j : ℕ) → j < 6 → row-word t id (suc j) ≡ getD (fields b) j 0
+  pub word : (b : Bool) → holds-span (l .kind) ≡ b → (j : ℕ) → j < 6 → row-word t id (suc j) ≡ getD (fields b) j 0
   word b q j h =
       word-of 8 t id _ e (suc j) (omega arith)
       ∙ row-field (l .kind) (fields (holds-span (l .kind))) (l .offset) j h

@@ -9,7 +9,7 @@ use lib.Dec.{ltb, eqb}
 use lib.ListN.{length, take, drop, getD, length-append}
 use lib.Seq.{take-at, drop-at, length-take-le}
 use Rattle.terms.specs.Forms.{universe, arity-of, holds-span}
-use Rattle.terms.specs.Label.{Name, part, Label}
+use Rattle.terms.specs.Label.{Name, part}
 use Rattle.terms.specs.Resolution.{Core, kept, covers, locals-in, is-unknown}
 use Rattle.terms.specs.Rows.{row, span, core-words}
 use Rattle.terms.proofs.Spans.{core-of-kept}
@@ -53,27 +53,28 @@ module _ (s surface declarations : List ℕ) (rows d : ℕ) where
   abbrev runs : List Work → List Name → List ℕ → List ℕ → TermOutcome
   runs = run s surface declarations rows d
 
-  run-one : (b : Bool) (a n left id : ℕ) (works : List Work) (locals : List Name) (values core : List ℕ)
-      → runs (scheduled-one b a n left id works) locals values core
-      ≡ and-then (R left id (cond b (part s a n ∷ locals) locals) core) (λ c. runs works locals (values ++ (id ∷ [])) c)
+  run-one : (b : Bool) (form left id : ℕ) (works : List Work) (locals : List Name) (values core : List ℕ)
+      → runs (scheduled-one b form left id works) locals values core
+      ≡ and-then (R left id (cond b (part s (row-word surface form 1) (row-word surface form 2) ∷ locals) locals) core) (λ c. runs works locals (values ++ (id ∷ [])) c)
   unfolding run
-  run-one true a n left id works locals values core = refl
-  run-one false a n left id works locals values core = refl
+  run-one true form left id works locals values core = refl
+  run-one false form left id works locals values core = refl
 
   -- The arguments' work items come to the arguments in order.
-  pub run-scheduled : (l : Label) (left i : ℕ) (ids : List ℕ) (works : List Work) (locals : List Name) (values core : List ℕ) (ls : ℕ → List Name)
-      → ((j : ℕ) → locals-in s l locals (i + j) ≡ ls j)
-      → runs (scheduled (l .kind) (l .start) (l .length) left i ids works) locals values core
+  run-scheduled : (form left i : ℕ) (ids : List ℕ) (works : List Work) (locals : List Name) (values core : List ℕ) (ls : ℕ → List Name)
+      → ((j : ℕ) → locals-in s (label-at surface form) locals (i + j) ≡ ls j)
+      → runs (scheduled (getD surface (form * 8) 0) form left i ids works) locals values core
       ≡ and-then (arguments (R left) ls ids core) (λ c. runs works locals (values ++ ids) c)
   unfolding scheduled arguments and-then
-  run-scheduled l left i [] works locals values core ls e = ap (λ (v : List ℕ). runs works locals v core) (sym (append-nil values))
-  run-scheduled l left i (id ∷ ids) works locals values core ls e =
+  run-scheduled form left i [] works locals values core ls e = ap (λ (v : List ℕ). runs works locals v core) (sym (append-nil values))
+  run-scheduled form left i (id ∷ ids) works locals values core ls e =
+      let l = label-at surface form in
       let x : locals-in s l locals i ≡ ls zero = ap (locals-in s l locals) (let q : i ≡ i + 0 = omega arith in q) ∙ e zero in
       let shift : (j : ℕ) → locals-in s l locals (suc i + j) ≡ ls (suc j) = λ j. ap (locals-in s l locals) (let q : suc i + j ≡ i + suc j = omega arith in q) ∙ e (suc j) in
-      run-one (covers (l .kind) i) (l .start) (l .length) left id _ locals values core
-      ∙ ap (λ (y : List Name). and-then (R left id y core) (λ c. runs (scheduled (l .kind) (l .start) (l .length) left (suc i) ids works) locals (values ++ (id ∷ [])) c)) x
+      run-one (covers (l .kind) i) form left id _ locals values core
+      ∙ ap (λ (y : List Name). and-then (R left id y core) (λ c. runs (scheduled (l .kind) form left (suc i) ids works) locals (values ++ (id ∷ [])) c)) x
       ∙ seq (R left id (ls zero) core) _ _ _
-      (λ c. run-scheduled l left (suc i) ids works locals (values ++ (id ∷ [])) c (λ j. ls (suc j)) shift
+      (λ c. run-scheduled form left (suc i) ids works locals (values ++ (id ∷ [])) c (λ j. ls (suc j)) shift
       ∙ ap (λ (v : List ℕ). and-then (arguments (R left) (λ j. ls (suc j)) ids c) (λ x. runs works locals v x)) (append-assoc values (id ∷ []) ids))
 
   module _ (id : ℕ) (locals : List Name) (core : List ℕ) (works : List Work) (values : List ℕ) where
@@ -88,7 +89,7 @@ module _ (s surface declarations : List ℕ) (rows d : ℕ) where
     -- A form comes to its arguments and then its row.
     pub run-form : (left : ℕ) → ltb id rows ≡ true → (arity-of (getD surface (id * 8) 0) ≡ 0 → ⊥)
         → runs (Work.Eval id (suc left) ∷ works) locals values core
-        ≡ runs (scheduled (getD surface (id * 8) 0) (row-word surface id 1) (row-word surface id 2) left 0 (children-at surface id) (Work.Build (getD surface (id * 8) 0) id ∷ works)) locals values core
+        ≡ runs (scheduled (getD surface (id * 8) 0) id left 0 (children-at surface id) (Work.Build (getD surface (id * 8) 0) id ∷ works)) locals values core
     unfolding run
     run-form left h z =
         let l = label-at surface id in
@@ -104,4 +105,4 @@ module _ (s surface declarations : List ℕ) (rows d : ℕ) where
         (λ c. ap₂ (λ (v w : List ℕ). runs works locals (v ++ (id ∷ [])) (stored-at 8 c id w))
         (sym (ap (λ (x : ℕ). take x (values ++ ids)) n ∙ take-at values ids (length values) refl))
         (words ∙ ap (core-words (form-label surface k id) kept) (sym (ap (λ (x : ℕ). drop x (values ++ ids)) n ∙ drop-at values ids (length values) refl))))
-        ∙ sym (run-scheduled l left 0 ids (Work.Build k id ∷ works) locals values core (locals-in s l locals) (λ j. ap (locals-in s l locals) (let q : 0 + j ≡ j = omega arith in q)))
+        ∙ sym (run-scheduled id left 0 ids (Work.Build k id ∷ works) locals values core (locals-in s l locals) (λ j. ap (locals-in s l locals) (let q : 0 + j ≡ j = omega arith in q)))

@@ -1,19 +1,20 @@
 -- Each work item's step: it comes to the same, there is less to do, and room for it.
 use Prim.Native.Nat.{ℕ, zero, suc, _+_, _-_, _*_, _≤_, _<_}
 use mathlib.Core.Path.{_≡_, refl, sym, _∙_, ap, ap₂, subst}
-use mathlib.Core.List.{List, [], _∷_, _++_}
+use mathlib.Core.List.{List, [], _∷_, _++_, map}
 use native.Mathlib.Omega.{arith}
 use borrow.Author.Tests.{lt-ltb, le-ltb}
 use lib.ListN.{length, getD, take, drop}
 use Rattle.terms.specs.Forms.{ref, arity-of}
 use Rattle.terms.specs.Label.{Name}
+use Rattle.terms.specs.Lookup.{Local}
 use Rattle.terms.specs.Resolution.{Core, kept, locals-in, is-unknown}
 use Rattle.terms.specs.Rows.{core-words}
 use Rattle.terms.proofs.Spans.{core-of-kept}
 use Rattle.terms.proofs.FormTable.{arity-ref}
 use Rattle.rows.specs.Places.{stored-at}
 use Rattle.rows.proofs.Arities.{arity-at-most-six}
-use Rattle.scope.specs.Scope.{local-names, declared-names}
+use Rattle.scope.specs.Scope.{in-scope, local-names, declared-names}
 use Rattle.stacks.specs.Stacks.{works-in, values-in, WorkPushed, LocalPushed}
 use Rattle.stacks.specs.declared.Work.{Work}
 use Rattle.stacks.proofs.Decoding.{length-works, length-values, values-below}
@@ -35,9 +36,9 @@ pub build-bounds : (works : List Work) (v l k id : ℕ) → Room (Work.Build k i
 unfolding Room
 build-bounds works v l k id r = (r .0, r .1, r .2)
 
-pub push-bound : (works : List Work) (v l a n : ℕ) → Room (Work.PushLocal a n ∷ works) v l → l < 512
+pub push-bound : (works : List Work) (v l form : ℕ) → Room (Work.PushLocal form ∷ works) v l → l < 512
 unfolding Room
-push-bound works v l a n r = r .0
+push-bound works v l form r = r .0
 
 pub pop-bound : (works : List Work) (v l : ℕ) → Room (Work.PopLocal ∷ works) v l → 0 < l
 unfolding Room
@@ -47,6 +48,9 @@ arguments-stop : (ids : List ℕ) (ls : ℕ → List Name) (core : List ℕ) →
 unfolding arguments and-then
 arguments-stop [] ls core h = absurd (h refl)
 arguments-stop (id ∷ ids) ls core h = refl
+
+abbrev names : List Local → List Name
+names = map (λ y. y .name)
 
 module _ (s surface declarations : List ℕ) (rows d : ℕ) (core work : List ℕ) (st : State) where
   abbrev locals : List Name
@@ -81,7 +85,7 @@ module _ (s surface declarations : List ℕ) (rows d : ℕ) (core work : List �
         let b = eval-bounds work st id left room in
         let p = r .value in
         let x = p .works (st .works) in
-        let y = p .locals s (st .locals) (omega arith) in
+        let y = ap names (p .locals s (st .locals) (omega arith)) in
         subst (λ (z : State). W (Work.Eval id left ∷ works) z core₁ work₁) (sym (r .state)) (record {
           same =
               run-row s surface declarations rows d id locals core works values left _ e
@@ -106,12 +110,6 @@ module _ (s surface declarations : List ℕ) (rows d : ℕ) (core work : List �
     module _ (there : id < rows) where
       abbrev k : ℕ
       k = getD surface (id * 8) 0
-
-      abbrev start : ℕ
-      start = row-word surface id 1
-
-      abbrev size : ℕ
-      size = row-word surface id 2
 
       pub reference-stepped : (step : WorkStep) (core₁ work₁ : List ℕ) → k ≡ ref
           → ReferenceDone (core-at s surface declarations rows d id locals) (label-at surface id) id st core work step core₁ work₁
@@ -149,7 +147,7 @@ module _ (s surface declarations : List ℕ) (rows d : ℕ) (core work : List �
             ∙ arguments-stop (children-at surface id) _ core (λ q. z (sym (length-children surface id) ∙ ap length q))))
 
         pub form-stepped : (g t : ℕ) (work₁ : List ℕ) → (arity-of k ≡ 0 → ⊥) → left ≡ suc g
-            → WorkPushed work work₁ t (scheduled k start size g 0 (children-at surface id) (Work.Build k id ∷ works))
+            → WorkPushed work work₁ t (scheduled k id g 0 (children-at surface id) (Work.Build k id ∷ works))
             → W (Work.Eval id left ∷ works) (record { works = t; values = st .values; locals = st .locals }) core work₁
         unfolding Room
         form-stepped g t work₁ z e p =
@@ -160,7 +158,7 @@ module _ (s surface declarations : List ℕ) (rows d : ℕ) (core work : List �
             let small = arity-at-most-six k in
             let len = length-works work (st .works) in
             let x = p .works in
-            let y = p .locals s (st .locals) (omega arith) in
+            let y = ap names (p .locals s (st .locals) (omega arith)) in
             let u = p .values (st .values) (omega arith) in
             let built = Work.Build k id ∷ works in
             record {
@@ -169,12 +167,12 @@ module _ (s surface declarations : List ℕ) (rows d : ℕ) (core work : List �
                   ∙ run-form s surface declarations rows d id locals core works values g (lt-ltb id rows there) z
                   ∙ (λ i. run s surface declarations rows d (sym x i) (sym y i) (sym u i) core);
               less = subst (λ (l : List Work). weight l < weight (Work.Eval id left ∷ works)) (sym x)
-                  (subst (λ (m : ℕ). weight (scheduled k start size g 0 ids built) < weight (Work.Eval id m ∷ works)) (sym e)
-                  (form-less k start size g ids id works (omega arith)));
+                  (subst (λ (m : ℕ). weight (scheduled k id g 0 ids built) < weight (Work.Eval id m ∷ works)) (sym e)
+                  (form-less k g ids id works (omega arith)));
               room = subst (λ (l : List Work). Room l (st .values) (st .locals)) (sym x)
-                  (room-scheduled k start size g 0 ids built (st .values) (st .locals) (omega arith) (omega arith) (omega arith)
+                  (room-scheduled k id g 0 ids built (st .values) (st .locals) (omega arith) (omega arith) (omega arith)
                   (omega arith, omega arith, omega arith, subst (λ (m : ℕ). Room works m (st .locals)) (omega arith) (room .3)));
-              fits = omega (arith, length-works work₁ t, ap length x, length-scheduled k start size g 0 ids built);
+              fits = omega (arith, length-works work₁ t, ap length x, length-scheduled k id g 0 ids built);
             }
 
   -- The other items.
@@ -186,7 +184,7 @@ module _ (s surface declarations : List ℕ) (rows d : ℕ) (core work : List �
       let b = st .values - arity-of k in
       let n : length values - arity-of k ≡ b = omega (arith, length-values work (st .values)) in
       let x = p .works (st .works) in
-      let y = p .locals s (st .locals) (r .2) in
+      let y = ap names (p .locals s (st .locals) (r .2)) in
       let back : st .values ≡ b + arity-of k = omega (arith, r .0) in
       let u : take (length values - arity-of k) values ++ (id ∷ []) ≡ values-in work₁ (b + 1) =
       ap (λ (m : ℕ). take m values ++ (id ∷ [])) n
@@ -200,20 +198,21 @@ module _ (s surface declarations : List ℕ) (rows d : ℕ) (core work : List �
         fits = fits;
       })
 
-  pub push-stepped : (a n : ℕ) (work₁ : List ℕ) → st .works ≤ 3754 → Room (Work.PushLocal a n ∷ works) (st .values) (st .locals) → LocalPushed work work₁ (st .locals) a n
-      → W (Work.PushLocal a n ∷ works) (record { works = st .works; values = st .values; locals = st .locals + 1 }) core work₁
+  pub push-stepped : (form : ℕ) (work₁ : List ℕ) → st .works ≤ 3754 → Room (Work.PushLocal form ∷ works) (st .values) (st .locals)
+      → LocalPushed work work₁ (st .locals) (row-word surface form 1) (row-word surface form 2) form
+      → W (Work.PushLocal form ∷ works) (record { works = st .works; values = st .values; locals = st .locals + 1 }) core work₁
   unfolding run Room weight
-  push-stepped a n work₁ fits r p =
+  push-stepped form work₁ fits r p =
       let x = p .works (st .works) in
       record {
-        same = λ i. run s surface declarations rows d (sym x i) (sym (p .locals s) i) (sym (p .values (st .values)) i) core;
+        same = λ i. run s surface declarations rows d (sym x i) (sym (ap names (p .locals s)) i) (sym (p .values (st .values)) i) core;
         less = omega (arith, ap weight x);
         room = subst (λ (z : List Work). Room z (st .values) (st .locals + 1)) (sym x) (r .1);
         fits = fits;
       }
 
   outer-names : (l : ℕ) → 0 < l → outer (local-names s work l) ≡ local-names s work (l - 1)
-  unfolding local-names
+  unfolding in-scope
   outer-names zero h = absurd (omega arith)
   outer-names (suc l) h = ap (local-names s work) (let z : l ≡ suc l - 1 = omega arith in z)
 

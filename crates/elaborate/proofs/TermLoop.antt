@@ -4,7 +4,7 @@ use mathlib.Core.Path.{_≡_, refl, sym, _∙_, ap, subst}
 use mathlib.Core.List.{List, [], _∷_}
 use native.Mathlib.Omega.{arith}
 use lib.ListN.{length}
-use Rattle.scope.specs.Scope.{local-names}
+use Rattle.scope.specs.Scope.{in-scope}
 use Rattle.stacks.specs.Stacks.{works-in, values-in, WorkPushed}
 use Rattle.stacks.specs.declared.Work.{Work}
 use Rattle.elaborate.specs.RowTerm.{TermOutcome, done, unknown-at, and-then, row-term}
@@ -30,7 +30,7 @@ module _ (s surface declarations index : List ℕ) (rows d root : ℕ) (core₀ 
 
   pub started : (work₀ work : List ℕ) → RowsInside s surface declarations index work₀ rows d → length work ≡ length work₀ → WorkPushed work₀ work (0 + 1) (Work.Eval root 512 ∷ works-in work₀ 0)
       → Elaborating core₀ work (record { works = 1; values = 0; locals = 0 })
-  unfolding works-in values-in local-names run Room
+  unfolding works-in values-in in-scope run Room
   started work₀ work i e p = record {
     same = and-done whole ∙ ap (λ (l : List Work). run s surface declarations rows d l [] [] core₀) (sym (p .works));
     room = subst (λ (l : List Work). Room l 0 0) (sym (p .works)) (omega arith, omega arith, omega arith, tt);

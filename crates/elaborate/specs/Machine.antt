@@ -31,15 +31,15 @@ abbrev pub outer : List Name → List Name
 outer [] = []
 outer (x ∷ l) = l
 
--- An argument's work items on top of others: where the binder covers it, its name is in scope meanwhile.
-abbrev pub scheduled-one : Bool → ℕ → ℕ → ℕ → ℕ → List Work → List Work
-scheduled-one true a n left id works = Work.PushLocal a n ∷ Work.Eval id left ∷ Work.PopLocal ∷ works
-scheduled-one false a n left id works = Work.Eval id left ∷ works
+-- An argument's work items on top of others: where the binder of the form at row `form` covers it, its name is in scope meanwhile.
+abbrev pub scheduled-one : Bool → ℕ → ℕ → ℕ → List Work → List Work
+scheduled-one true form left id works = Work.PushLocal form ∷ Work.Eval id left ∷ Work.PopLocal ∷ works
+scheduled-one false form left id works = Work.Eval id left ∷ works
 
--- The arguments of a form of kind k from argument i on, the first on top.
-unfoldable pub scheduled : ℕ → ℕ → ℕ → ℕ → ℕ → List ℕ → List Work → List Work
-scheduled k a n left i [] works = works
-scheduled k a n left i (id ∷ ids) works = scheduled-one (covers k i) a n left id (scheduled k a n left (suc i) ids works)
+-- The arguments of the form of kind k at row `form` from argument i on, the first on top.
+unfoldable pub scheduled : ℕ → ℕ → ℕ → ℕ → List ℕ → List Work → List Work
+scheduled k form left i [] works = works
+scheduled k form left i (id ∷ ids) works = scheduled-one (covers k i) form left id (scheduled k form left (suc i) ids works)
 
 -- What work items come to, with the local names, the values and the core table.
 module _ (s surface declarations : List ℕ) (rows d : ℕ) where
@@ -47,7 +47,7 @@ module _ (s surface declarations : List ℕ) (rows d : ℕ) where
   run [] locals values core = done core
   run (Work.Eval id left ∷ works) locals values core =
       and-then (row-term s surface declarations rows d left id locals core) (λ c. run works locals (values ++ (id ∷ [])) c)
-  run (Work.PushLocal a n ∷ works) locals values core = run works (part s a n ∷ locals) values core
+  run (Work.PushLocal form ∷ works) locals values core = run works (part s (row-word surface form 1) (row-word surface form 2) ∷ locals) values core
   run (Work.PopLocal ∷ works) locals values core = run works (outer locals) values core
   run (Work.Build k id ∷ works) locals values core =
       run works locals (take (length values - arity-of k) values ++ (id ∷ []))
@@ -58,7 +58,7 @@ module _ (s surface declarations : List ℕ) (rows d : ℕ) where
 unfoldable pub Room : List Work → ℕ → ℕ → Type 0
 Room [] v l = Unit {0}
 Room (Work.Eval id left ∷ works) v l = (length works + 7 * left ≤ 3584) × (v + 5 * left ≤ 2560) × (l + left ≤ 512) × Room works (v + 1) l
-Room (Work.PushLocal a n ∷ works) v l = (l < 512) × Room works v (l + 1)
+Room (Work.PushLocal form ∷ works) v l = (l < 512) × Room works v (l + 1)
 Room (Work.PopLocal ∷ works) v l = (0 < l) × Room works v (l - 1)
 Room (Work.Build k id ∷ works) v l = (arity-of k ≤ v) × (v ≤ arity-of k + 2560) × (l ≤ 512) × Room works (v - arity-of k + 1) l
 
@@ -70,7 +70,7 @@ form-weight (suc left) = 6 * form-weight left + 14
 unfoldable pub weight : List Work → ℕ
 weight [] = 0
 weight (Work.Eval id left ∷ works) = form-weight left + weight works
-weight (Work.PushLocal a n ∷ works) = 1 + weight works
+weight (Work.PushLocal form ∷ works) = 1 + weight works
 weight (Work.PopLocal ∷ works) = 1 + weight works
 weight (Work.Build k id ∷ works) = 1 + weight works
 
@@ -85,7 +85,7 @@ pub record RowsInside (s surface declarations index work : List ℕ) (rows d : �
 pub record FormScheduled (surface : List ℕ) (k id left : ℕ) (st : State) (work : List ℕ) (st₁ : State) (work₁ : List ℕ) : Type 0 where
   pub state : st₁ ≡ record { works = st₁ .works; values = st .values; locals = st .locals }
   pub items : WorkPushed work work₁ (st₁ .works)
-      (scheduled k (row-word surface id 1) (row-word surface id 2) left 0 (take (arity-of k) (six-at surface id (holds-span k))) (Work.Build k id ∷ works-in work (st .works)))
+      (scheduled k id left 0 (take (arity-of k) (six-at surface id (holds-span k))) (Work.Build k id ∷ works-in work (st .works)))
 
 -- A row is stored, and its number is one more value.
 pub record RowDone (id : ℕ) (words : List ℕ) (st : State) (core work : List ℕ) (st₁ : State) (core₁ work₁ : List ℕ) : Type 0 where

@@ -6,17 +6,18 @@ ghost use Prim.Native.Nat.{_+_, _-_, _*_, _<_, _≤_};
 ghost use lib.ListN.{length, take};
 ghost use Rattle.terms.specs.Forms.{ref, arity-of};
 ghost use Rattle.terms.specs.Label.{Declaration};
-ghost use Rattle.terms.specs.Resolution.{covers, core-of};
+ghost use Rattle.terms.specs.Resolution.{core-of};
 ghost use Rattle.scope.specs.Scope.{local-names, declared-names};
 ghost use Rattle.scope.specs.Index.{Indexed};
 ghost use Rattle.stacks.specs.Stacks.{names-room, values-room, works-room, works-in, WorkArea, WorkPushed, LocalPushed};
-ghost use Rattle.elaborate.specs.RowTerm.{label-at, six-at, row-term};
+ghost use Rattle.elaborate.specs.RowTerm.{row-word, label-at, six-at, row-term};
 ghost use Rattle.elaborate.specs.Machine.{Six, scheduled-one, scheduled, FormScheduled, Room, RowsInside, RowDone, ReferenceDone, without-arguments, form-row, WorkStepped, Answered};
 ghost use Rattle.elaborate.specs.Loadable.{Loadable, Elaborates};
 ghost use Rattle.elaborate.specs.Declarations.{Fitting, Whether, Blank, record-outcome, declaration-outcome, Declared};
 use scope::Referent;
 use scope::Slot;
 use stacks::Work;
+use tables::word_at;
 use terms::Label;
 
 // The kinds that resolution tells apart: a reference among terms, a postulate among declarations.
@@ -79,17 +80,6 @@ fn refused(class: u8, start: u32, length: u32) -> Elaborated
     }
 }
 
-// Whether a form's binder covers its argument i.
-fn covers(kind: u32, i: usize) -> bool
-    ensures { λ r. ⌜ r ≡ covers kind i ⌝ }
-{
-    match kind {
-        4 | 7 => i == 1,
-        5 => i == 0,
-        _ => false,
-    }
-}
-
 // What a surface row says of its term.
 fn label_at(surface: &[u32], id: usize) -> Label
     requires { ⌜ id * 8 + 8 ≤ length (now surface) ⌝ }
@@ -123,52 +113,43 @@ fn row_children(surface: &[u32], id: usize, span: bool) -> [u32; 6]
     ]
 }
 
-// One argument on top of t work items.
-fn schedule_one(
-    work: &mut [u32],
-    t: usize,
-    covered: bool,
-    start: u32,
-    length: u32,
-    row: u32,
-    left: u32,
-) -> usize
+// One argument of the form at row `form` on top of t work items.
+fn schedule_one(work: &mut [u32], t: usize, covered: bool, form: u32, row: u32, left: u32) -> usize
     requires { ⌜ (t + 3 ≤ works-room) × WorkArea (now work) ⌝ }
-    ensures { λ r. ⌜ (r ≤ t + 3) × WorkPushed (now (work .entry)) (now (work .exit)) r (scheduled-one covered start length left row (works-in (now (work .entry)) t)) ⌝ }
+    ensures { λ r. ⌜ (r ≤ t + 3) × WorkPushed (now (work .entry)) (now (work .exit)) r (scheduled-one covered form left row (works-in (now (work .entry)) t)) ⌝ }
 {
     if covered {
         let t1 = t + 1;
         let t2 = t + 2;
         stacks::push_work(work, t, Work::PopLocal);
         stacks::push_work(work, t1, Work::Eval { row, left });
-        stacks::push_work(work, t2, Work::PushLocal { start, length });
+        stacks::push_work(work, t2, Work::PushLocal { row: form });
         return t + 3;
     }
     stacks::push_work(work, t, Work::Eval { row, left });
     t + 1
 }
 
-// A form's n arguments on top of t work items, the first on top.
+// The n arguments of the form at row `form` on top of t work items, the first on top.
 fn schedule(
     work: &mut [u32],
     t: usize,
     kind: u32,
-    start: u32,
-    length: u32,
+    form: u32,
     children: [u32; 6],
     n: usize,
     left: u32,
 ) -> usize
     requires { ⌜ (n ≤ 6) × Six children × (t + 18 ≤ works-room) × WorkArea (now work) ⌝ }
-    ensures { λ r. ⌜ WorkPushed (now (work .entry)) (now (work .exit)) r (scheduled kind start length left 0 (take n children) (works-in (now (work .entry)) t)) ⌝ }
+    ensures { λ r. ⌜ WorkPushed (now (work .entry)) (now (work .exit)) r (scheduled kind form left 0 (take n children) (works-in (now (work .entry)) t)) ⌝ }
 {
     let mut i = n;
     let mut top = t;
     while 0 < i {
         let k = i - 1;
-        let covered = covers(kind, k);
+        let covered = rows::covers(kind, k);
         let row = children[k];
-        top = schedule_one(work, top, covered, start, length, row, left);
+        top = schedule_one(work, top, covered, form, row, left);
         i -= 1;
     }
     top
@@ -190,13 +171,11 @@ fn schedule_form(
     let t = st.works;
     let v = st.values;
     let l = st.locals;
-    let start = surface[k * ROW + 1];
-    let length = surface[k * ROW + 2];
     let n = rows::arity(kind) as usize;
     let span = rows::holds_span(kind);
     let children = row_children(surface, k, span);
     stacks::push_work(work, t, Work::Build { kind, row: id });
-    let top = schedule(work, t + 1, kind, start, length, children, n, left);
+    let top = schedule(work, t + 1, kind, id, children, n, left);
     State {
         works: top,
         values: v,
@@ -247,7 +226,7 @@ fn eval_reference(
     let length = label.length;
     let r = scope::find_name(s, work, declarations, index, l, d, start, length);
     match r {
-        Referent::Var(count) => {
+        Referent::Var { count, row: _ } => {
             let row = rows::reference_row(1, count, label.offset);
             WorkStep::Go(finish(core, work, st, id, row))
         }
@@ -342,15 +321,18 @@ fn eval(
     WorkStep::Go(schedule_form(surface, work, st, kind, id, left - 1))
 }
 
-// A name comes into scope.
-fn enter_binder(work: &mut [u32], st: State, start: u32, length: u32) -> State
+// The name of the binder of the form at row `form` comes into scope.
+fn enter_binder(surface: &[u32], work: &mut [u32], st: State, form: u32) -> State
     requires { ⌜ (st .locals < names-room) × WorkArea (now work) ⌝ }
-    ensures { λ r. ⌜ (r ≡ record { works = st .works; values = st .values; locals = st .locals + 1 }) × LocalPushed (now (work .entry)) (now (work .exit)) (st .locals) start length ⌝ }
+    ensures { λ r. ⌜ (r ≡ record { works = st .works; values = st .values; locals = st .locals + 1 }) × LocalPushed (now (work .entry)) (now (work .exit)) (st .locals) (row-word (now (surface .entry)) form 1) (row-word (now (surface .entry)) form 2) form ⌝ }
 {
     let t = st.works;
     let v = st.values;
     let l = st.locals;
-    stacks::push_local(work, l, start, length);
+    let at = form as usize * ROW;
+    let start = word_at(surface, at + 1);
+    let length = word_at(surface, at + 2);
+    stacks::push_local(work, l, start, length, form);
     State {
         works: t,
         values: v,
@@ -416,7 +398,7 @@ fn work_step(
             rows,
             d,
         ),
-        Work::PushLocal { start, length } => WorkStep::Go(enter_binder(work, below, start, length)),
+        Work::PushLocal { row } => WorkStep::Go(enter_binder(surface, work, below, row)),
         Work::PopLocal => WorkStep::Go(leave_binder(below)),
         Work::Build { kind, row } => WorkStep::Go(build_term(
             surface,

@@ -1,5 +1,5 @@
 mod Parsing
-mod WellRead
+pub mod WellRead
 pub mod Cleared
 pub mod Fronts
 mod Resolving

@@ -207,6 +207,26 @@ fn clear(t: &mut [u32])
     tables::clear_from(t, 0)
 }
 
+// "12 .. nowhere, after loading": a question about a source is asked of what it has not.
+pub fn nowhere_12() -> Refusal
+    ensures { λ r. ⌜ r ≡ nowhere 12 ⌝ }
+{
+    refused(12)
+}
+
+// What such a refusal leaves.
+pub fn clear_all(surface: &mut [u32], core: &mut [u32], declarations: &mut [u32], work: &mut [u32])
+    ensures { λ r. ⌜ now (surface .exit) ≡ cleared (now (surface .entry)) 0 ⌝ }
+    ensures { λ r. ⌜ now (core .exit) ≡ cleared (now (core .entry)) 0 ⌝ }
+    ensures { λ r. ⌜ now (declarations .exit) ≡ cleared (now (declarations .entry)) 0 ⌝ }
+    ensures { λ r. ⌜ now (work .exit) ≡ cleared (now (work .entry)) 0 ⌝ }
+{
+    clear(surface);
+    clear(core);
+    clear(declarations);
+    clear(work);
+}
+
 // Reads a source into the lent tables, with no name looked at.
 pub fn parse_surface(
     s: &[u8],

@@ -1,6 +1,7 @@
 // Asks of two sources and two core texts with the declaration list lent as a slice of records, and prints the answer and the first three
-// records of the list: 01's input of the listing, which is loaded, read and asked about a dependence, whose core text is printed and read
-// again; a source that is refused; and a core text that is not what would be printed for it.
+// records of the list: 01's input of the listing, which is loaded, read and asked about a dependence and about what binds its references,
+// whose core text is printed and read again; a source that is refused; and a core text that is not what would be printed for it.
+use binding::Binding;
 use libc::STDOUT_FILENO;
 use printing::Printed;
 use reader::ModuleRead;
@@ -119,6 +120,20 @@ fn print_text_read(answer: Answer) {
     }
 }
 
+fn print_bound(answer: Binding) {
+    match answer {
+        Binding::Local { count, row } => {
+            io::write_all(STDOUT_FILENO, b"var");
+            print_counts(count, row);
+        }
+        Binding::Global { place } => {
+            io::write_all(STDOUT_FILENO, b"global");
+            print_number(place as u64);
+        }
+        Binding::Refused(refusal) => print_refusal(refusal),
+    }
+}
+
 fn print_reply(reply: Reply) {
     match reply {
         Reply::Loaded(answer) => print_loaded(answer),
@@ -126,6 +141,7 @@ fn print_reply(reply: Reply) {
         Reply::Depends(answer) => print_dependence(answer),
         Reply::Printed(answer) => print_printed(answer),
         Reply::Read(answer) => print_text_read(answer),
+        Reply::Bound(answer) => print_bound(answer),
     }
     io::write_all(STDOUT_FILENO, b"\n");
 }
@@ -185,6 +201,9 @@ fn print_source(s: &[u8], text: &mut [u8]) {
     print_asked(Question::Parse, s, text);
     print_asked(Question::Depends(1, 0), s, text);
     print_asked(Question::Depends(0, 1), s, text);
+    print_asked(Question::Binder(1), s, text);
+    print_asked(Question::Binder(2), s, text);
+    print_asked(Question::Binder(3), s, text);
 }
 
 fn print_core(t: &[u8], text: &mut [u8]) {
@@ -207,6 +226,7 @@ fn main() {
     print_asked(Question::Load, unknown, &mut short);
     print_asked(Question::Parse, unknown, &mut short);
     print_asked(Question::Depends(0, 0), unknown, &mut short);
+    print_asked(Question::Binder(0), unknown, &mut short);
     print_asked(Question::Print, unknown, &mut short);
     let spaced =
         b"(hott-core (format 0 1) (theory \"mltt-core\" 0 1) (declarations (postulate \"x\"  nat)))";

@@ -13,6 +13,7 @@ use Rattle.surface.specs.Reader.{start, Result}
 use Rattle.surface.specs.Tables.{Lengths, Tables, tables, lengths, Left, leaves}
 use Rattle.surface.specs.Loading.{Outcome, outcome, parsing, loading, load}
 use Rattle.surface.specs.Dependence.{asking, ask, Answers}
+use Rattle.binding.specs.Binds as Binds
 use Rattle.loader.specs.Parsed.{parsed, parse}
 use Rattle.printing.specs.PrintCall.{PrintLeft, printing, print, print-leaves}
 use Rattle.core_module.specs.CoreText.{read-core, read-canonical}
@@ -22,11 +23,11 @@ use Rattle.records.proofs.Whole.{limit-within}
 use Rattle.record_loader.specs.declared.Question.{Question}
 use Rattle.record_loader.specs.declared.Reply.{Reply}
 use Rattle.record_loader.specs.Recorded.{list-words, front}
-use Rattle.record_loader.specs.Replies.{loaded-of, parsed-of, dependence-of, printed-of, read-of, Besides, Answered, Replies}
+use Rattle.record_loader.specs.Replies.{loaded-of, parsed-of, dependence-of, bound-of, printed-of, read-of, Besides, Answered, Replies}
 use Rattle.record_loader.proofs.Enough.{Makes, outcome-makes, parsed-makes, printed, printed-makes, listed}
 use Rattle.record_loader.proofs.Lists.{front-records, fit-records}
 use Rattle.record_loader.proofs.Room.{with-words}
-use Rattle.record_loader.proofs.Settling.{Settles, parsing-settles, loading-settles, asking-settles, printing-settles, settled}
+use Rattle.record_loader.proofs.Settling.{Settles, parsing-settles, loading-settles, asking-settles, answering, left-is, answering-settles, printing-settles, settled}
 use Rattle.record_loader.proofs.Short.{pad-same, first-long, first-words}
 use Rattle.record_loader.proofs.Words.{list-long, words-back}
 
@@ -99,6 +100,18 @@ module _ (s surface core words words₁ work : List ℕ) (list : List Declaratio
         let k = carried z Q (asking-settles s i j z) (outcome s) _ (outcome-makes s) _ surface₁ core₁ work₁ (h .0 .1) in
         let after : Tables = tables surface₁ core₁ (list-words (records-of words₁ n)) work₁ in
         ((subst (λ x. Answers s i j x (dependence-of r)) (same-result z Q (asking-settles s i j z)) (h .0 .0), ap (λ x. leaves x after) (sym (ap (λ (o : Left _ Tables). o .answer) k)) ∙ k), h .1)
+    answered (Question.Binder k) h =
+        let z = lent core [] in
+        let b = bound-of r in
+        let Q : ℕ → Result (List D.Declaration) = λ d. answering b (loading s (with-words z d) start) in
+        let before = lengths (tables surface core (front n words words) work) in
+        let m = carried z Q (answering-settles s b z) (outcome s) _ (outcome-makes s) _ surface₁ core₁ work₁ (ap (leaves (outcome s before (Q part) .answer)) (h .0 .1 ∙ left-is s before b)) in (
+          (
+            subst (λ x. Binds.Answers s k x b) (same-result z (λ d. loading s (with-words z d) start) (loading-settles s z)) (h .0 .0),
+            ap (λ (o : Left _ Tables). o .tables) m ∙ sym (left-is s (lengths (tables surface core (list-words list) work)) b),
+          ),
+          h .1,
+        )
     answered Question.Print h =
         let z = lent core [] in
         ap (λ o. print-leaves (o .answer .0) (o .tables) (o .answer .1))

@@ -8,10 +8,12 @@ use lib.Dec.{ltb, leb}
 use lib.ListN.{length}
 use borrow.Author.Tests.{ltb-true, ltb-false}
 use Rattle.terms.specs.Label.{Declaration}
-use Rattle.surface.specs.Reader.{Position, start, Result, done, after, pure, require, nowhere}
-use Rattle.surface.specs.Loading.{Lengths, parsing, loading}
+use Rattle.surface.specs.Reader.{Position, start, Result, done, refused, after, pure, require, nowhere}
+use Rattle.surface.specs.Loading.{Lengths, parsing, loading, outcome, load}
 use Rattle.surface.specs.Dependence.{asking}
 use Rattle.surface.proofs.Steps.{after-elim, require-elim, done-inj}
+use Rattle.binding.specs.declared.Binding.{Binding}
+use Rattle.binding.specs.Binds.{left}
 use Rattle.printing.specs.PrintCall.{text-of, printing}
 use Rattle.records.specs.Records.{word-limit}
 use Rattle.records.proofs.Whole.{limit-below, limit-above}
@@ -37,6 +39,26 @@ asking-settles s i j z = record {
       require-elim (ltb i (length ds₁) && ltb j (length ds₁)) (nowhere 12) q₁ _ ds q e₁ (λ _ e₂.
       subst (λ (l : List Declaration). length l ≤ d / 5) (done-inj e₂ .0) (loading-settles s z .few d q₁ ds₁ f₁)));
 }
+
+-- What the question for the binder comes to, by its answer: loading's result, or its refusal.
+abbrev pub answering : Binding → Result (List Declaration) → Result (List Declaration)
+answering (Binding.Local count row) o = o
+answering (Binding.Global place) o = o
+answering (Binding.Refused r) o = refused r
+
+pub left-is : (s : List ℕ) (z : Lengths) (b : Binding) → left s z b ≡ outcome s z (answering b (loading s z start)) .tables
+unfolding load
+left-is s z (Binding.Local count row) = refl
+left-is s z (Binding.Global place) = refl
+left-is s z (Binding.Refused r) = refl
+
+pub answering-settles : (s : List ℕ) (b : Binding) (z : Lengths) → Settles (λ d. answering b (loading s (with-words z d) start))
+answering-settles s b z = record { same = λ x y h l. ap (answering b) (loading-same s z x y h l); few = λ d q ds. few b d q ds }
+  where
+    few : (b : Binding) (d : ℕ) (q : Position) (ds : List Declaration) → answering b (loading s (with-words z d) start) ≡ done ds q → length ds ≤ d / 5
+    few (Binding.Local count row) d q ds e = loading-settles s z .few d q ds e
+    few (Binding.Global place) d q ds e = loading-settles s z .few d q ds e
+    few (Binding.Refused r) d q ds e = absurd (let n : _≡_ {A = ℕ} 0 1 = cc in omega arith)
 
 pub printing-settles : (s : List ℕ) (m : ℕ) (z : Lengths) → Settles (λ d. printing s (with-words z d) m start)
 unfolding printing

@@ -10,8 +10,8 @@ use Rattle.terms.proofs.Tables.{length-pad}
 use Rattle.surface.specs.declared.Answer.{Answer}
 use Rattle.surface.specs.Reader.{start, Result, done, refused}
 use Rattle.surface.specs.Tables.{Lengths, Tables, lengths, leaves}
-use Rattle.surface.specs.Reports.{Report, report}
-use Rattle.surface.specs.Loading.{Outcome, load}
+use Rattle.surface.specs.Reports.{report}
+use Rattle.surface.specs.Loading.{Outcome}
 use Rattle.surface.specs.SameCore.{declaration-count}
 use Rattle.surface.specs.Statements.{loading-reports}
 use Rattle.surface.proofs.Statements.{demand-3-in, row-offsets, load-reports, ask-reports}
@@ -24,7 +24,8 @@ use Rattle.records.proofs.Whole.{limit-within}
 use Rattle.record_loader.specs.declared.Question.{Question}
 use Rattle.record_loader.specs.declared.Reply.{Reply}
 use Rattle.record_loader.specs.Recorded.{list-words}
-use Rattle.record_loader.specs.Replies.{loaded-of, parsed-of, dependence-of, printed-of, read-of, without-core, for-text, Besides}
+use Rattle.binding.proofs.Statements.{binder-reports}
+use Rattle.record_loader.specs.Replies.{loaded-of, parsed-of, dependence-of, bound-of, read-of, without-core, for-text, Besides}
 use Rattle.record_loader.specs.Statements.{Lent, worded, without-surface, Demand3Records, RowOffsetsRecords, RoundTripRecords, ReadsRecords, report-reply, ReplyingReports, ReplyReports}
 use Rattle.record_loader.proofs.FirstRecords.{same-whole}
 use Rattle.record_loader.proofs.Short.{first-long, text-all}
@@ -81,6 +82,8 @@ reply-reports s Question.Parse before text r after text₁ h =
     subst (λ (x : Reply). ReplyingReports s Question.Parse before text (report-reply x)) (sym (h .0)) (parse-reports s (without-core before) (parsed-of r) (without-core after) (h .1 .0))
 reply-reports s (Question.Depends i j) before text r after text₁ h =
     subst (λ (x : Reply). ReplyingReports s (Question.Depends i j) before text (report-reply x)) (sym (h .0)) (ask-reports s i j before (dependence-of r) after (h .1 .0))
+reply-reports s (Question.Binder k) before text r after text₁ h =
+    subst (λ (x : Reply). ReplyingReports s (Question.Binder k) before text (report-reply x)) (sym (h .0)) (binder-reports s k before (bound-of r) after (h .1 .0))
 reply-reports s Question.Print before text r after text₁ h =
     subst (λ (x : Reply). ReplyingReports s Question.Print before text (report-reply x)) (sym (h .0)) (ap (λ (o : PrintLeft). report-printed (o .answer)) (h .1))
 reply-reports s Question.ReadCore before text r after text₁ h =

@@ -8,11 +8,13 @@ use Rattle.surface.specs.declared.Answer.{Answer}
 use Rattle.surface.specs.Reader.{start}
 use Rattle.surface.specs.Tables.{Each, Tables, tables, lengths, in-words, leaves}
 use Rattle.surface.specs.Reports.{Report, report, report-dependence}
-use Rattle.surface.specs.Loading.{parsing, loading, load}
+use Rattle.surface.specs.Loading.{parsing, loading}
 use Rattle.surface.specs.SameCore.{row-count, declaration-count, SameCore, Accepts}
 use Rattle.surface.specs.Agreement.{Agreement}
 use Rattle.surface.specs.Dependence.{asking}
 use Rattle.surface.specs.Statements.{RowsBegin, loading-reports, AskingReports}
+use Rattle.binding.specs.Binds.{report-binding}
+use Rattle.binding.specs.Statements.{BindingReports}
 use Rattle.loader.specs.Parsed.{report-read}
 use Rattle.printing.specs.declared.Printed.{Printed}
 use Rattle.printing.specs.PrintCall.{print, report-printed}
@@ -76,6 +78,7 @@ abbrev pub report-reply : Reply → Report
 report-reply (Reply.Loaded a) = report a
 report-reply (Reply.Parsed a) = report-read a
 report-reply (Reply.Depends a) = report-dependence a
+report-reply (Reply.Bound a) = report-binding a
 report-reply (Reply.Printed a) = report-printed a
 report-reply (Reply.Read a) = report a
 
@@ -84,6 +87,7 @@ abbrev pub ReplyingReports : List ℕ → Question → Tables → List ℕ → R
 ReplyingReports s Question.Load before text n = n ≡ loading-reports (loading s (lengths before) start)
 ReplyingReports s Question.Parse before text n = n ≡ loading-reports (parsing s (lengths (without-core before)) start)
 ReplyingReports s (Question.Depends i j) before text n = AskingReports s i j (asking s (lengths before) i j start) n
+ReplyingReports s (Question.Binder k) before text n = BindingReports s k (loading s (lengths before) start) n
 ReplyingReports s Question.Print before text n = n ≡ report-printed (print s (lengths before) (length text) .answer)
 ReplyingReports s Question.ReadCore before text n = n ≡ loading-reports (reading-text s (lengths (for-text before)) start)
 ReplyingReports s Question.ReadCanonical before text n = n ≡ loading-reports (reading-canonical s (lengths (for-text before)) start)

@@ -1,5 +1,6 @@
 // Every question to a source or a core text with the declaration list lent as a slice of records: one entry point, proved by hand, over a
 // covered function that goes by the question. Each further question is a case more in it, and in specs/Replies.antt.
+use binding::Binding;
 use printing::Printed;
 use reader::ModuleRead;
 use records::Declaration;
@@ -18,6 +19,7 @@ pub enum Question {
     Print,
     ReadCore,
     ReadCanonical,
+    Binder(usize),
 }
 
 pub enum Reply {
@@ -26,6 +28,7 @@ pub enum Reply {
     Depends(Dependence),
     Printed(Printed),
     Read(Answer),
+    Bound(Binding),
 }
 
 // Asks with as many words for the declarations as a list of so many records takes.
@@ -70,6 +73,10 @@ fn ask_words(
         Question::ReadCanonical => {
             let a = core_loader::read_canonical(s, core, &mut words[..limit], work);
             Reply::Read(a)
+        }
+        Question::Binder(row) => {
+            let b = binder::binder(s, row, surface, core, &mut words[..limit], work);
+            Reply::Bound(b)
         }
     }
 }

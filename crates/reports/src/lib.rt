@@ -1,4 +1,5 @@
 // An answer as plain numbers, and how the library's functions tell them.
+use binding::Binding;
 use lister::Listed;
 use printing::Printed;
 use reader::ModuleRead;
@@ -13,6 +14,7 @@ ghost use mathlib.Core.Path.{_≡_};
 ghost use mathlib.Core.List.{[], _∷_, _++_};
 ghost use Rattle.surface.specs.Reports.{offsets, report-refusal, report, report-dependence, token-number, report-token};
 ghost use Rattle.loader.specs.Parsed.{report-read};
+ghost use Rattle.binding.specs.Binds.{report-binding};
 ghost use Rattle.printing.specs.PrintCall.{report-printed};
 ghost use Rattle.same.specs.Comparison.{report-comparison};
 ghost use Rattle.reports.specs.Numbers.{numbers, words, told, report-listed};
@@ -49,14 +51,14 @@ fn report_refusal(refusal: Refusal) -> Numbers
     }
 }
 
-fn report_counts(rows: usize, declarations: usize) -> Numbers
-    ensures { λ r. ⌜ r ≡ numbers (record { number = 0; values = rows ∷ declarations ∷ [] }) ⌝ }
+fn report_two(first: usize, second: usize) -> Numbers
+    ensures { λ r. ⌜ r ≡ numbers (record { number = 0; values = first ∷ second ∷ [] }) ⌝ }
 {
     Numbers {
         number: 0,
         count: 2,
-        first: rows as u64,
-        second: declarations as u64,
+        first: first as u64,
+        second: second as u64,
         third: 0,
     }
 }
@@ -65,7 +67,7 @@ pub fn report_loaded(answer: Answer) -> Numbers
     ensures { λ r. ⌜ r ≡ numbers (report answer) ⌝ }
 {
     match answer {
-        Answer::Loaded { rows, declarations } => report_counts(rows, declarations),
+        Answer::Loaded { rows, declarations } => report_two(rows, declarations),
         Answer::Refused(refusal) => report_refusal(refusal),
     }
 }
@@ -74,7 +76,7 @@ pub fn report_read(answer: ModuleRead) -> Numbers
     ensures { λ r. ⌜ r ≡ numbers (report-read answer) ⌝ }
 {
     match answer {
-        ModuleRead::Done { rows, declarations } => report_counts(rows, declarations),
+        ModuleRead::Done { rows, declarations } => report_two(rows, declarations),
         ModuleRead::Refused(refusal) => report_refusal(refusal),
     }
 }
@@ -114,6 +116,23 @@ pub fn report_dependence(answer: Dependence) -> Numbers
             third: 0,
         },
         Dependence::Refused(refusal) => report_refusal(refusal),
+    }
+}
+
+// What binds a reference: the count and the row for a local, the place for a global.
+pub fn report_binding(answer: Binding) -> Numbers
+    ensures { λ r. ⌜ r ≡ numbers (report-binding answer) ⌝ }
+{
+    match answer {
+        Binding::Local { count, row } => report_two(count, row),
+        Binding::Global { place } => Numbers {
+            number: 0,
+            count: 1,
+            first: place as u64,
+            second: 0,
+            third: 0,
+        },
+        Binding::Refused(refusal) => report_refusal(refusal),
     }
 }
 

@@ -10,7 +10,7 @@ ghost use Prim.Native.Nat.{_+_, _*_};
 ghost use lib.ListN.{getD, take};
 ghost use Rattle.terms.specs.Forms.{arity-of, holds-span, holds-span-in};
 ghost use Rattle.terms.specs.Label.{part};
-ghost use Rattle.terms.specs.Resolution.{kept};
+ghost use Rattle.terms.specs.Resolution.{kept, covers};
 ghost use Rattle.terms.specs.Rows.{pad, row, core-words};
 ghost use Rattle.terms.specs.TextForms.{text-forms};
 ghost use Rattle.rows.specs.Places.{has-place, stored-at};
@@ -42,6 +42,17 @@ pub fn holds_span(kind: u32) -> bool
         return false;
     }
     (SPANS >> kind) % 2 == 1
+}
+
+// Whether a form's binder covers its argument i.
+pub fn covers(kind: u32, i: usize) -> bool
+    ensures { λ r. ⌜ r ≡ covers kind i ⌝ }
+{
+    match kind {
+        4 | 7 => i == 1,
+        5 => i == 0,
+        _ => false,
+    }
 }
 
 // The first len arguments, and 0 for the others: one choice for all of them.

@@ -1,2 +1,3 @@
 mod Search
+pub mod Locals
 pub mod Index

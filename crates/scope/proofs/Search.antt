@@ -1,9 +1,9 @@
--- A walk over a list of names that passes one name after the other.
+-- A walk over the declarations' names that passes one name after the other, and what a comparison of names says.
 use Prim.Native.Nat.{ℕ, suc, _+_, _-_, _*_, _≤_, _<_}
-use mathlib.Core.Path.{_≡_, refl, sym, _∙_, ap, ap₂}
+use mathlib.Core.Path.{_≡_, refl, sym, _∙_, ap}
 use mathlib.Core.List.{List, [], _∷_}
 use mathlib.Core.Option.{Option, none, some}
-use mathlib.Core.Bool.{Bool, true, false}
+use mathlib.Core.Bool.{true, false}
 use native.Mathlib.Omega.{arith}
 use native.Mathlib.Numerals.{add-one}
 use native.Mathlib.Nat.{min-le-left}
@@ -14,8 +14,8 @@ use borrow.Author.Tests.{ne-eqb}
 use Rattle.words.proofs.Names.{ne-same}
 use Rattle.words.specs.Words.{same-bytes}
 use Rattle.terms.specs.Label.{Name, part}
-use Rattle.terms.specs.Resolution.{next-number, find, referent, core-of}
-use Rattle.scope.specs.Scope.{local-names, declared-names, reference}
+use Rattle.terms.specs.Resolution.{next-number, find}
+use Rattle.scope.specs.Scope.{declared-names}
 
 -- A number counted from the k-th name on, as one counted from the first.
 abbrev counted : ℕ → Option ℕ → Option ℕ
@@ -51,10 +51,6 @@ module _ (x : Name) where
     unfolding find
     passed-all q = sym (p ∙ rw q)
 
-  -- What a comparison with the name at two words says.
-  pub compared : (s : List ℕ) (a m a' m' : ℕ) (r b : Bool) → a ≡ a' → m ≡ m' → r ≡ same-bytes x (part s a m) → r ≡ b → same-bytes x (part s a' m') ≡ b
-  compared s a m a' m' r b p q e h = (λ i. same-bytes x (part s (sym p i) (sym q i))) ∙ sym e ∙ h
-
 -- A part is no longer than it says.
 pub longer : (x : Name) (s : List ℕ) (a n : ℕ) → n < length x → same-bytes x (part s a n) ≡ false
 longer x s a n h = ne-same x (part s a n) (λ q. let e = ap length q in omega (arith, length-take n (drop a s), min-le-left n (length (drop a s))))
@@ -73,16 +69,6 @@ nothing-left x s a n h = rw (drop-of-length-le s {i = a} h, take-nil n) (empty x
     empty [] = refl
     empty (b ∷ l) = ne-eqb (suc (length l)) 0 (λ q. omega arith)
 
--- The name on top of the locals.
-pub innermost : (s w : List ℕ) (d : ℕ) → 0 < d
-    → local-names s w d ≡ part s (getD w ((d - 1) * 2) 0) (getD w ((d - 1) * 2 + 1) 0) ∷ local-names s w (d - 1)
-unfolding local-names
-innermost s w d h = ap (local-names s w) (let q : d ≡ suc (d - 1) = omega arith in q)
-
-pub no-local : (s w : List ℕ) (d : ℕ) → d ≡ 0 → local-names s w d ≡ []
-unfolding local-names
-no-local s w d e = rw e
-
 -- The name of the declaration at place k.
 pub declared-next : (s t : List ℕ) (k d : ℕ) → k < d
     → declared-names s t k (d - k) ≡ part s (getD t (k * 5 + 1) 0) (getD t (k * 5 + 2) 0) ∷ declared-names s t (k + 1) (d - (k + 1))
@@ -94,9 +80,3 @@ declared-next s t k d h =
 pub no-declaration : (s t : List ℕ) (k d : ℕ) → d ≡ k → declared-names s t k (d - k) ≡ []
 unfolding declared-names
 no-declaration s t k d e = ap (declared-names s t k) (let q : d - k ≡ 0 = omega arith in q)
-
--- What the two walks say of a reference.
-pub referred : (s : List ℕ) (locals globals : List Name) (a n : ℕ) (l g : Option ℕ) → l ≡ find (part s a n) locals → g ≡ find (part s a n) globals
-    → referent l g ≡ core-of s locals globals (reference a n)
-unfolding core-of
-referred s locals globals a n l g p q = ap₂ referent p q

@@ -7,12 +7,16 @@ ghost use lib.ListN.{length};
 ghost use mathlib.Core.List.{List};
 ghost use Rattle.words.specs.Words.{same-bytes};
 ghost use Rattle.terms.specs.Label.{part};
-ghost use Rattle.terms.specs.Resolution.{find, core-of};
-ghost use Rattle.scope.specs.Scope.{place-of, core-of-referent, Binders, local-names, declared-names, reference};
+ghost use Rattle.terms.specs.Resolution.{find};
+ghost use Rattle.terms.specs.Lookup.{lookup, refers};
+ghost use Rattle.scope.specs.Scope.{place-of, found-of, referent-of, Binders, in-scope, declared-names};
 ghost use Rattle.scope.specs.Index.{places, all-slots, mixed, bit-of, name-at, Indexed, Searched};
 
 // How many words a declaration record has.
 const RECORD: usize = 5;
+
+// The rows of the locals' forms stand behind the spans of 512 names, so that the walk over names goes by pairs of words.
+const ROWS: usize = 1024;
 
 // The index of names: how many heads it has, and for how many places it has two links each. A source of 65,535 bytes has fewer declarations.
 const HEADS: usize = 4096;
@@ -37,14 +41,21 @@ enum Found {
     Nothing,
 }
 
+// A name in scope: how many others stand inside of it, and the row of the form that binds it.
+enum FoundLocal {
+    At { count: u32, row: u32 },
+    Nothing,
+}
+
 // The place of a declaration with a name, or the slot of the index where its name would go.
 pub enum Slot {
     Held(u32),
     Free(usize),
 }
 
+// What a name refers to: a local, with the row of the form that binds it, or a declaration's place.
 pub enum Referent {
-    Var(u32),
+    Var { count: u32, row: u32 },
     Global(u32),
     Unknown,
 }
@@ -64,30 +75,29 @@ fn is_name(s: &[u8], start: u32, length: u32, x: &[u8]) -> bool
     words::same_bytes(x, &s[a..a + n])
 }
 
-// How many binders lie between a name and the innermost one of that name. A part is no longer than it says: most are passed by their length.
-fn find_local(s: &[u8], work: &[u32], depth: usize, start: u32, length: u32) -> Found
+// How many binders lie between a name and the innermost one of that name, and its row. A part is no longer than it says: most are passed by
+// their length.
+fn find_local(s: &[u8], work: &[u32], depth: usize, start: u32, length: u32) -> FoundLocal
     requires { ⌜ Binders (now work) depth ⌝ }
-    ensures { λ r. ⌜ place-of r ≡ find (part (now (s .entry)) start length) (local-names (now (s .entry)) (now (work .entry)) depth) ⌝ }
+    ensures { λ r. ⌜ found-of r ≡ lookup (part (now (s .entry)) start length) (in-scope (now (s .entry)) (now (work .entry)) depth) ⌝ }
 {
     let x = atom(s, start, length);
     let mut d = depth;
-    let mut count: usize = 0;
     while 0 < d {
-        d -= 1;
-        let i = d * 2;
-        let n = work[i + 1];
-        if (n as usize) < x.len() {
-            count += 1;
-        } else {
-            let a = work[i];
+        let n = work[d * 2 - 1];
+        if x.len() <= n as usize {
+            let a = work[d * 2 - 2];
             if is_name(s, a, n, x) {
-                let number = count as u32;
-                return Found::At(number);
+                let count = depth - d;
+                return FoundLocal::At {
+                    count: count as u32,
+                    row: work[ROWS + d - 1],
+                };
             }
-            count += 1;
         }
+        d -= 1;
     }
-    Found::Nothing
+    FoundLocal::Nothing
 }
 
 // The place of the first of d declarations that has the name x, by a walk over all.
@@ -214,12 +224,15 @@ pub fn find_name(
     length: u32,
 ) -> Referent
     requires { ⌜ Binders (now work) depth × (d ≤ 4294967295) × Indexed (now s) (now declarations) d (now index) ⌝ }
-    ensures { λ r. ⌜ core-of-referent r ≡ core-of (now (s .entry)) (local-names (now (s .entry)) (now (work .entry)) depth) (declared-names (now (s .entry)) (now (declarations .entry)) 0 d) (reference start length) ⌝ }
+    ensures { λ r. ⌜
+        referent-of r ≡ refers (lookup (part (now (s .entry)) start length) (in-scope (now (s .entry)) (now (work .entry)) depth))
+        (find (part (now (s .entry)) start length) (declared-names (now (s .entry)) (now (declarations .entry)) 0 d))
+        ⌝ }
 {
     let l = find_local(s, work, depth, start, length);
     match l {
-        Found::At(i) => Referent::Var(i),
-        Found::Nothing => {
+        FoundLocal::At { count, row } => Referent::Var { count, row },
+        FoundLocal::Nothing => {
             let g = find_indexed(s, declarations, index, d, start, length);
             match g {
                 Slot::Held(j) => Referent::Global(j),

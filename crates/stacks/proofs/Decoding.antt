@@ -1,5 +1,5 @@
 -- The stacks read from a work area: how many items they have, and that only their own words count.
-use Prim.Native.Nat.{ℕ, zero, suc, _+_, _-_, _*_, _≤_, _<_}
+use Prim.Native.Nat.{ℕ, zero, suc, _+_, _*_, _≤_, _<_}
 use mathlib.Core.Path.{_≡_, refl, _∙_, ap}
 use mathlib.Core.List.{List, [], _∷_, _++_}
 use native.Mathlib.Omega.{arith}
@@ -7,7 +7,8 @@ use native.Mathlib.Nat.{add-zero, add-suc}
 use lib.ListN.{length, getD, take, length-append}
 use lib.Seq.{take-append-le, take-all}
 use Rattle.terms.specs.Label.{part}
-use Rattle.scope.specs.Scope.{local-names}
+use Rattle.terms.specs.Lookup.{local-of}
+use Rattle.scope.specs.Scope.{in-scope}
 use Rattle.stacks.specs.Stacks.{work-of, works-in, values-in}
 
 pub length-works : (w : List ℕ) (t : ℕ) → length (works-in w t) ≡ t
@@ -53,11 +54,12 @@ module _ (w w' : List ℕ) where
       let a = h (2048 + v) (omega arith) (omega arith) in
       λ k. front k ++ (a k ∷ [])
 
-  pub same-locals : (s : List ℕ) (l : ℕ) → Same w w' 0 (l * 2) → local-names s w' l ≡ local-names s w l
-  unfolding local-names
-  same-locals s zero h = refl
-  same-locals s (suc l) h =
-      let tail = same-locals s l (λ j p q. h j p (omega arith)) in
+  pub same-locals : (s : List ℕ) (l : ℕ) → Same w w' 0 (l * 2) → Same w w' 1024 (1024 + l) → in-scope s w' l ≡ in-scope s w l
+  unfolding in-scope
+  same-locals s zero h r = refl
+  same-locals s (suc l) h r =
+      let tail = same-locals s l (λ j p q. h j p (omega arith)) (λ j p q. r j p (omega arith)) in
       let a = h (l * 2) (omega arith) (omega arith) in
       let b = h (l * 2 + 1) (omega arith) (omega arith) in
-      λ k. part s (a k) (b k) ∷ tail k
+      let c = r (1024 + l) (omega arith) (omega arith) in
+      λ k. local-of (part s (a k) (b k)) (c k) ∷ tail k

@@ -18,7 +18,7 @@ module _ (op a b : ℕ) where
   unfolding work-of
   is-eval e = rw e
 
-  pub is-push-local : op ≡ 1 → work-of op a b ≡ Work.PushLocal a b
+  pub is-push-local : op ≡ 1 → work-of op a b ≡ Work.PushLocal a
   unfolding work-of
   is-push-local e = rw e
 

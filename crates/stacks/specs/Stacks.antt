@@ -1,5 +1,5 @@
--- The three stacks in the work area: names in scope from word 0, values from word 2,048, work items from word 5,120.
--- There is room for 512 names of up to four words, for 3,072 values, and for 3,754 work items of three words.
+-- The three stacks in the work area: names in scope, their starts and lengths from word 0 and the rows of their forms from word 1,024, values from word
+-- 2,048, work items from word 5,120. There is room for 512 names, for 3,072 values, and for 3,754 work items of three words.
 use Prim.Native.Nat.{ℕ, zero, suc, _+_, _*_, _≤_}
 use mathlib.Core.Path.{_≡_}
 use mathlib.Core.List.{List, [], _∷_, _++_}
@@ -7,7 +7,8 @@ use mathlib.Core.Bool.{true, false}
 use lib.ListN.{length, getD}
 use lib.Dec.{eqb}
 use Rattle.terms.specs.Label.{part}
-use Rattle.scope.specs.Scope.{local-names}
+use Rattle.terms.specs.Lookup.{local-of}
+use Rattle.scope.specs.Scope.{in-scope}
 use Rattle.stacks.specs.declared.Work.{Work}
 
 -- How many names in scope, values and work items there is room for.
@@ -26,7 +27,7 @@ work-of op a b =
     elim (eqb op 0) [
       | true ↦ Work.Eval a b
       | false ↦ elim (eqb op 1) [
-        | true ↦ Work.PushLocal a b
+        | true ↦ Work.PushLocal a
         | false ↦ elim (eqb op 2) [ true ↦ Work.PopLocal | false ↦ Work.Build a b ]
       ]
     ]
@@ -49,14 +50,14 @@ WorkArea w = 16384 ≤ length w
 pub record WorkPushed (w w' : List ℕ) (t : ℕ) (items : List Work) : Type 0 where
   pub works : works-in w' t ≡ items
   pub values : (v : ℕ) → v ≤ values-room → values-in w' v ≡ values-in w v
-  pub locals : (s : List ℕ) (l : ℕ) → l ≤ names-room → local-names s w' l ≡ local-names s w l
+  pub locals : (s : List ℕ) (l : ℕ) → l ≤ names-room → in-scope s w' l ≡ in-scope s w l
 
 pub record ValuePushed (w w' : List ℕ) (v value : ℕ) : Type 0 where
   pub works : (t : ℕ) → works-in w' t ≡ works-in w t
   pub values : values-in w' (v + 1) ≡ values-in w v ++ (value ∷ [])
-  pub locals : (s : List ℕ) (l : ℕ) → l ≤ names-room → local-names s w' l ≡ local-names s w l
+  pub locals : (s : List ℕ) (l : ℕ) → l ≤ names-room → in-scope s w' l ≡ in-scope s w l
 
-pub record LocalPushed (w w' : List ℕ) (l start n : ℕ) : Type 0 where
+pub record LocalPushed (w w' : List ℕ) (l start n row : ℕ) : Type 0 where
   pub works : (t : ℕ) → works-in w' t ≡ works-in w t
   pub values : (v : ℕ) → values-in w' v ≡ values-in w v
-  pub locals : (s : List ℕ) → local-names s w' (l + 1) ≡ part s start n ∷ local-names s w l
+  pub locals : (s : List ℕ) → in-scope s w' (l + 1) ≡ local-of (part s start n) row ∷ in-scope s w l

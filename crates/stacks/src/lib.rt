@@ -10,15 +10,18 @@ ghost use Rattle.stacks.specs.Stacks.{works-room, values-room, names-roo
 // "11 work area under 16,384 words"
 pub const AREA: usize = 16384;
 
-// A name in scope has two words from word 0 on; there is room for four words each.
+// A name in scope has two words from word 0 on, its start and length, and one from here on, the row of the form that binds it.
+const ROWS: usize = 1024;
+
 const VALUES: usize = 2048;
 
 const WORKS: usize = 5120;
 
-// An Eval keeps how many forms may still be opened in its row, a Build the row that it is for.
+// An Eval keeps how many forms may still be opened in its row, a PushLocal the row of the form whose binder comes into scope, a Build the row
+// that it is for.
 pub enum Work {
     Eval { row: u32, left: u32 },
-    PushLocal { start: u32, length: u32 },
+    PushLocal { row: u32 },
     PopLocal,
     Build { kind: u32, row: u32 },
 }
@@ -49,7 +52,7 @@ pub fn push_work(work: &mut [u32], t: usize, item: Work)
 {
     match item {
         Work::Eval { row, left } => store_work(work, t, EVAL, row, left),
-        Work::PushLocal { start, length } => store_work(work, t, PUSH_LOCAL, start, length),
+        Work::PushLocal { row } => store_work(work, t, PUSH_LOCAL, row, 0),
         Work::PopLocal => store_work(work, t, POP_LOCAL, 0, 0),
         Work::Build { kind, row } => store_work(work, t, BUILD, kind, row),
     }
@@ -66,10 +69,7 @@ pub fn pop_work(work: &[u32], t: usize) -> Work
     let b = work[at + 2];
     match op {
         0 => Work::Eval { row: a, left: b },
-        1 => Work::PushLocal {
-            start: a,
-            length: b,
-        },
+        1 => Work::PushLocal { row: a },
         2 => Work::PopLocal,
         _ => Work::Build { kind: a, row: b },
     }
@@ -98,11 +98,12 @@ pub fn pop_values(work: &[u32], v: usize, n: usize) -> [u32; 6]
 }
 
 // One more name, inside of l others.
-pub fn push_local(work: &mut [u32], l: usize, start: u32, length: u32)
+pub fn push_local(work: &mut [u32], l: usize, start: u32, length: u32, row: u32)
     requires { ⌜ (l < names-room) × WorkArea (now work) ⌝ }
-    ensures { λ r. ⌜ LocalPushed (now (work .entry)) (now (work .exit)) l start length ⌝ }
+    ensures { λ r. ⌜ LocalPushed (now (work .entry)) (now (work .exit)) l start length row ⌝ }
 {
     let at = l * 2;
     work[at] = start;
     work[at + 1] = length;
+    work[ROWS + l] = row;
 }

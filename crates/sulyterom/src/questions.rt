@@ -1,10 +1,12 @@
-// The dependence question and the same-core question.
+// The dependence question, the question for the binder and the same-core question.
+use reports::report_binding;
 use reports::report_comparison;
 use reports::report_dependence;
 use reports::tell;
 ghost use Rattle.surface.specs.Tables.{tables, lengths};
 ghost use Rattle.surface.specs.Reports.{report-dependence};
 ghost use Rattle.surface.specs.Dependence.{Asks};
+ghost use Rattle.binding.specs.Binds.{AsksBinder, report-binding};
 ghost use Rattle.same.specs.Comparison.{report-comparison, SameAsked};
 ghost use Rattle.reports.specs.Numbers.{Told};
 
@@ -29,6 +31,30 @@ pub extern "C" fn sulyterom_depends(
 {
     let asked = depends::depends(source, i, j, surface, core, declarations, work);
     let numbers = report_dependence(asked);
+    tell(answer, numbers)
+}
+
+// What binds the reference at a row. A local has two values, how many binders stand between and the row of the form that binds it, a global
+// one, its declaration's place. `answer` takes three numbers.
+#[no_mangle]
+pub extern "C" fn sulyterom_binder(
+    source: &[u8],
+    row: usize,
+    surface: &mut [u32],
+    core: &mut [u32],
+    declarations: &mut [u32],
+    work: &mut [u32],
+    answer: &mut [u64],
+) -> u8
+    ensures { λ r. ⌜
+        Told (λ a. AsksBinder (now (source .entry)) row
+        (tables (now (surface .entry)) (now (core .entry)) (now (declarations .entry)) (now (work .entry))) a
+        (tables (now (surface .exit)) (now (core .exit)) (now (declarations .exit)) (now (work .exit)))) report-binding 3
+        (now (answer .entry)) r (now (answer .exit))
+        ⌝ }
+{
+    let bound = binder::binder(source, row, surface, core, declarations, work);
+    let numbers = report_binding(bound);
     tell(answer, numbers)
 }
 

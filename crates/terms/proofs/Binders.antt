@@ -105,7 +105,7 @@ around-out t u x i j p q e h =
       covered = h .covered;
     }
 
-first-down : (x : Name) (i : ℕ) (s o : List Binder) → first x (map (down i) s ++ o) ≡ maybe (first x s) (first x o) (λ q. some (i ∷ q))
+pub first-down : (x : Name) (i : ℕ) (s o : List Binder) → first x (map (down i) s ++ o) ≡ maybe (first x s) (first x o) (λ q. some (i ∷ q))
 first-down x i [] o = refl
 first-down x i (b ∷ s) o = go (first-down x i s o) (same? x (b .called))
   where

@@ -15,4 +15,10 @@ pub mod Tables
 pub mod RowFields
 pub mod Widths
 pub mod Depends
+pub mod Lookup
 pub mod Offsets
+pub mod Entries
+pub mod RowsAt
+pub mod Everywhere
+pub mod Higher
+pub mod Relabelled

@@ -8,3 +8,5 @@ pub mod Content
 pub mod Agreement
 pub mod Dependence
 pub mod Offsets
+pub mod RowAt
+pub mod Lookup

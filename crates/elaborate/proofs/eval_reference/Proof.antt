@@ -1,8 +1,8 @@
 -- `eval_reference` meets its contract.
 use mathlib.Core.Path.{refl, sym, ap, _∙_}
 use Rattle.terms.specs.Resolution.{is-unknown}
-use Rattle.scope.specs.Scope.{local-names, declared-names, core-of-referent}
-use Rattle.elaborate.proofs.Alike.{reference-core}
+use Rattle.scope.specs.Scope.{referent-of, in-scope, declared-names}
+use Rattle.scope.proofs.Locals.{referred}
 use Rattle.elaborate.proofs.Finishing.{reference-done}
 use borrow.Author.Needs.{needs}
 use Rattle.elaborate.proofs.eval_reference.Statement.{statement}
@@ -43,7 +43,8 @@ returns c =
     let o = c .before .before .before .before .before .before .before .before .before .before .before .before .before .before .before .before .before .before in
     let a = o .args in
     reference-done (a .label) (a .st) _ _ _
-    (sym (ap core-of-referent (c .before .before .before .before .before .before .before .before .before .r .given .1)) ∙ c .before .before .before .before .before .before .before .before .before .before .before .find-name .ensures ∙ reference-core (a .s .now) (local-names (a .s .now) (a .work .now) (a .st .locals)) (declared-names (a .s .now) (a .declarations .now) 0 (a .d)) (a .label) (o .pre .1)) refl
+    (referred (a .s .now) (in-scope (a .s .now) (a .work .now) (a .st .locals)) (declared-names (a .s .now) (a .declarations .now) 0 (a .d)) (a .label) _ (o .pre .1)
+    (sym (ap referent-of (c .before .before .before .before .before .before .before .before .before .r .given .1)) ∙ c .before .before .before .before .before .before .before .before .before .before .before .find-name .ensures)) refl
     (c .before .before .before .before .before .before .before .reference-row .ensures) (c .before .before .before .before .finish .ensures)
 
 same-length-3 : tie.Need-same-length-3
@@ -57,7 +58,8 @@ returns-2 c =
     let o = c .before .before .before .before .before .before .before .before .before .before .before .before .before .before .before .before .before .before in
     let a = o .args in
     reference-done (a .label) (a .st) _ _ _
-    (sym (ap core-of-referent (c .before .before .before .before .before .before .before .before .before .r2 .given .1)) ∙ c .before .before .before .before .before .before .before .before .before .before .before .find-name .ensures ∙ reference-core (a .s .now) (local-names (a .s .now) (a .work .now) (a .st .locals)) (declared-names (a .s .now) (a .declarations .now) 0 (a .d)) (a .label) (o .pre .1)) refl
+    (referred (a .s .now) (in-scope (a .s .now) (a .work .now) (a .st .locals)) (declared-names (a .s .now) (a .declarations .now) 0 (a .d)) (a .label) _ (o .pre .1)
+    (sym (ap referent-of (c .before .before .before .before .before .before .before .before .before .r2 .given .1)) ∙ c .before .before .before .before .before .before .before .before .before .before .before .find-name .ensures)) refl
     (c .before .before .before .before .before .before .before .reference-row2 .ensures) (c .before .before .before .before .finish2 .ensures)
 
 same-length-5 : tie.Need-same-length-5
@@ -68,8 +70,8 @@ returns-3 c =
     let o = c .before .before .before .before .before .before .before .before .before in
     let a = o .args in (
       ap is-unknown
-          (sym (sym (ap core-of-referent (c .enum-told .given .1)) ∙ c .before .before .find-name .ensures
-          ∙ reference-core (a .s .now) (local-names (a .s .now) (a .work .now) (a .st .locals)) (declared-names (a .s .now) (a .declarations .now) 0 (a .d)) (a .label) (o .pre .1))),
+          (sym (referred (a .s .now) (in-scope (a .s .now) (a .work .now) (a .st .locals)) (declared-names (a .s .now) (a .declarations .now) 0 (a .d)) (a .label) _ (o .pre .1)
+          (sym (ap referent-of (c .enum-told .given .1)) ∙ c .before .before .find-name .ensures))),
       refl,
       refl,
     )

@@ -11,18 +11,18 @@ use Rattle.elaborate.proofs.schedule.Statement.{statement}
 use Rattle.elaborate.proofs.schedule.Tie as tie
 
 abbrev Inv-loop : tie.InvT-loop
-Inv-loop work₀ t kind start length n left children i₀ top₀ work i top =
+Inv-loop work₀ t kind form n left children i₀ top₀ work i top =
     (i ≤ n) × (top + 3 * i ≤ t + 18) × (lib.ListN.length work ≡ lib.ListN.length work₀)
-    × WorkPushed work₀ work top (scheduled kind start length left i (drop i (take n children)) (works-in work₀ t))
+    × WorkPushed work₀ work top (scheduled kind form left i (drop i (take n children)) (works-in work₀ t))
 
 abbrev μ-loop : tie.MeasureT-loop
-μ-loop work₀ t kind start length n left children i₀ top₀ work i top = i
+μ-loop work₀ t kind form n left children i₀ top₀ work i top = i
 
 loop-holds : tie.Need-loop-holds Inv-loop μ-loop
 loop-holds c =
     let o = c .before in
     let a = o .args in
-    (omega arith, omega arith, refl, pushed-none (a .work .now) (a .t) (a .kind) (a .start) (a .length) (a .left) (a .t6) (a .n) (o .pre .1) (o .pre .0))
+    (omega arith, omega arith, refl, pushed-none (a .work .now) (a .t) (a .kind) (a .form) (a .left) (a .t5) (a .n) (o .pre .1) (o .pre .0))
 
 sub-k : tie.Need-sub-k Inv-loop μ-loop
 sub-k c = omega arith
@@ -54,7 +54,7 @@ loop-again c =
       omega arith,
       omega (arith, k .ensures .0),
       k .kept .0 ∙ l .loop .inv .2,
-      pushed-next (a .work .now) (a .t) (a .kind) (a .start) (a .length) (a .left) (a .t6) (a .n) (o .pre .1) (o .pre .0)
+      pushed-next (a .work .now) (a .t) (a .kind) (a .form) (a .left) (a .t5) (a .n) (o .pre .1) (o .pre .0)
           (l .loop .work) (k .last .0) (l .loop .i) (l .loop .top) (k .result) _ (omega arith) (omega arith) (c .before .before .before .before .covers .ensures) (l .loop .inv .3) (k .ensures .1),
     )
 
@@ -66,7 +66,7 @@ returns c =
     let l = c .before in
     let o = l .before .before in
     let a = o .args in
-    pushed-all (a .work .now) (a .t) (a .kind) (a .start) (a .length) (a .left) (a .t6) (a .n) (o .pre .1) (o .pre .0) (l .loop .work) (l .loop .i) (l .loop .top) (omega arith) (l .loop .inv .3)
+    pushed-all (a .work .now) (a .t) (a .kind) (a .form) (a .left) (a .t5) (a .n) (o .pre .1) (o .pre .0) (l .loop .work) (l .loop .i) (l .loop .top) (omega arith) (l .loop .inv .3)
 
 pub schedule-spec : {M : Type 1} → statement M
 schedule-spec =

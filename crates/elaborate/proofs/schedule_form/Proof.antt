@@ -5,36 +5,12 @@ use mathlib.Core.List.{List}
 use native.Mathlib.Omega.{arith}
 use lib.ListN.{length, take}
 use Rattle.rows.proofs.Arities.{arity-at-most-six}
-use Rattle.elaborate.specs.RowTerm.{row-word, six-at}
+use Rattle.elaborate.specs.RowTerm.{six-at}
 use Rattle.elaborate.proofs.Scheduling.{form-pushed}
 use Rattle.elaborate.proofs.Finishing.{length-six}
 use borrow.Author.Needs.{needs}
 use Rattle.elaborate.proofs.schedule_form.Statement.{statement}
 use Rattle.elaborate.proofs.schedule_form.Tie as tie
-
-mul-start : tie.Need-mul-start
-mul-start c = search needs
-
-add-start : tie.Need-add-start
-add-start c = search needs
-
-mul-start-2 : tie.Need-mul-start-2
-mul-start-2 c = search needs
-
-shared-slice-read-start : tie.Need-shared-slice-read-start
-shared-slice-read-start c = search needs
-
-mul-length : tie.Need-mul-length
-mul-length c = search needs
-
-add-length : tie.Need-add-length
-add-length c = search needs
-
-mul-length-2 : tie.Need-mul-length-2
-mul-length-2 c = search needs
-
-shared-slice-read-length : tie.Need-shared-slice-read-length
-shared-slice-read-length c = search needs
 
 arity-requires : tie.Need-arity-requires
 arity-requires c κs = search needs
@@ -56,7 +32,7 @@ add-schedule c = search needs
 
 schedule-requires : tie.Need-schedule-requires
 schedule-requires c κs =
-    let o = c .before .before .before .before .before .before .before .before .before .before .before .before in
+    let o = c .before .before .before .before .before .before .before .before .before .before in
     let a = o .args in
     let n = c .before .before .before .before .before .before .before .arity in
     let x = c .before .before .before .before .before .row-children in
@@ -67,14 +43,14 @@ same-length c = search needs
 
 returns : tie.Need-returns
 returns c =
-    let o = c .before .before .before .before .before .before .before .before .before .before .before .before .before .before .before in
+    let o = c .before .before .before .before .before .before .before .before .before .before .before .before .before in
     let a = o .args in
     let n = c .before .before .before .before .before .before .before .before .before .before .arity in
     let g = c .before .before .before .before .before .before .before .before .before .holds-span in
     let x = c .before .before .before .before .before .before .before .before .row-children in
     record {
       state = refl;
-      items = form-pushed (a .st .works) (a .kind) (row-word (a .surface .now) (a .id) 1) (row-word (a .surface .now) (a .id) 2) (a .left) (a .id) _ _
+      items = form-pushed (a .st .works) (a .kind) (a .left) (a .id) _ _
           (ap₂ (λ (m : ℕ) (l : List ℕ). take m l) (n .ensures) (x .ensures ∙ ap (six-at (a .surface .now) (a .id)) (g .ensures)))
           (c .before .before .before .before .before .before .push-work .ensures) (c .before .before .schedule .ensures);
     }
@@ -83,14 +59,6 @@ pub schedule-form-spec : {M : Type 1} → statement M
 schedule-form-spec =
     tie.close
     (tie.spec
-    mul-start
-    add-start
-    mul-start-2
-    shared-slice-read-start
-    mul-length
-    add-length
-    mul-length-2
-    shared-slice-read-length
     arity-requires
     cast-n
     holds-span-requires

@@ -30,7 +30,7 @@ returns : tie.Need-returns
 returns c =
     let a = c .before .before .before .before .before .before .before .before .before .before .before .before .before .before .args in (
       omega arith,
-      one-covered (a .t) (a .start) (a .length) (a .left) (a .row) (a .covered) (c .before .before .before .before .before .before .before .before .before .before .before .before .if1 .taken)
+      one-covered (a .t) (a .form) (a .left) (a .row) (a .covered) (c .before .before .before .before .before .before .before .before .before .before .before .before .if1 .taken)
           (c .before .before .before .before .before .before .before .before .before .before .push-work .ensures) (c .before .before .before .before .before .before .push-work2 .ensures) (c .before .before .push-work3 .ensures),
     )
 
@@ -46,7 +46,7 @@ same-length-2 c = search needs
 returns-2 : tie.Need-returns-2
 returns-2 c =
     let a = c .before .before .before .before .before .before .args in
-    (omega arith, one-plain (a .t) (a .start) (a .length) (a .left) (a .row) (a .covered) (c .before .before .before .before .if1 .left) (c .before .before .push-work4 .ensures))
+    (omega arith, one-plain (a .t) (a .form) (a .left) (a .row) (a .covered) (c .before .before .before .before .if1 .left) (c .before .before .push-work4 .ensures))
 
 pub schedule-one-spec : {M : Type 1} → statement M
 schedule-one-spec =

@@ -38,7 +38,7 @@ enter-binder-requires c κs =
     let p = c .before .before .before .before .before .before .popped in
     let e = top-item (a .work .now) (a .st) (p .result) _ _ (o .pre .1 .1 .0) (p .ensures) (c .before .before .before .before .pop-work .ensures) (c .before .before .item2 .given .1) in
     let r = top-room _ _ (a .st) (p .result) e (p .ensures) (o .pre .1 .0) in
-    (push-bound _ _ _ _ _ r, o .pre .0 .area)
+    (push-bound _ _ _ _ r, o .pre .0 .area)
 
 enum-told : tie.Need-enum-told
 enum-told c = search needs
@@ -93,9 +93,9 @@ returns-2 c =
     let r = top-room _ _ (a .st) (p .result) e (p .ensures) (o .pre .1 .0) in
     let k = c .before .before .enter-binder in
     let x = top-fits (a .st) (p .result) (p .ensures) in
-    top-stepped (a .s .now) (a .surface .now) (a .declarations .now) (a .rows) (a .d) (a .core .now) (a .work .now) (a .st) (p .result) (p .ensures) _ (WorkStep.Go _) (a .core .now) (k .last .0) e
+    top-stepped (a .s .now) (a .surface .now) (a .declarations .now) (a .rows) (a .d) (a .core .now) (a .work .now) (a .st) (p .result) (p .ensures) _ (WorkStep.Go _) (a .core .now) (k .last .1 .0) e
     (as-state (a .s .now) (a .surface .now) (a .declarations .now) (a .rows) (a .d) (a .core .now) (a .work .now) (p .result) (k .ensures .0)
-    (push-stepped (a .s .now) (a .surface .now) (a .declarations .now) (a .rows) (a .d) (a .core .now) (a .work .now) (p .result) _ _ (k .last .0) (omega arith) r (k .ensures .1)))
+    (push-stepped (a .s .now) (a .surface .now) (a .declarations .now) (a .rows) (a .d) (a .core .now) (a .work .now) (p .result) _ (k .last .1 .0) (omega arith) r (k .ensures .1)))
 
 same-length-4 : tie.Need-same-length-4
 same-length-4 c = search needs

@@ -115,6 +115,22 @@ slice-aggregate-read-canonical c =
 read-canonical-requires : tie.Need-read-canonical-requires
 read-canonical-requires c κs = search needs
 
+enum-known-question-2 : tie.Need-enum-known-question-2
+enum-known-question-2 c = search needs
+
+slice-relend-prefix-binder : tie.Need-slice-relend-prefix-binder
+slice-relend-prefix-binder c =
+    let a = c .before .before .before .before .before .before .before .before .before .before .before .before .args in
+    within (a .count) _ (a .words .now) (c .before .before .before .before .before .word-limit .ensures)
+
+slice-aggregate-binder : tie.Need-slice-aggregate-binder
+slice-aggregate-binder c =
+    let a = c .before .before .before .before .before .before .before .before .before .before .before .before .before .args in
+    taken (a .count) _ (a .words .now) (c .before .before .before .before .before .before .word-limit .ensures)
+
+binder-requires : tie.Need-binder-requires
+binder-requires c κs = search needs
+
 same-length : tie.Need-same-length
 same-length c = search needs
 
@@ -257,6 +273,30 @@ returns-6 c short =
     (λ x y. Replies (a .s .now) Question.ReadCanonical (tables (a .surface .now) (a .core .now) x (a .work .now)) (a .text .now) (Reply.Read (k .result)) (after y) (a .text .now))
     (refl, (all-read lent (after (k .last .1 .1 .0)) fits (k .kept .1 .1 .0) (λ x y. ReadsCanonical (a .s .now) x (k .result) y) (k .ensures), all-besides lent (after (k .last .1 .1 .0)) fits (k .kept .1 .1 .0) refl, refl)))
 
+same-length-23 : tie.Need-same-length-23
+same-length-23 c = search needs
+
+same-length-24 : tie.Need-same-length-24
+same-length-24 c = search needs
+
+same-length-25 : tie.Need-same-length-25
+same-length-25 c = search needs
+
+same-length-26 : tie.Need-same-length-26
+same-length-26 c = search needs
+
+returns-7 : tie.Need-returns-7
+returns-7 c short =
+    let a = c .before .before .before .before .before .before .before .before .before .before .before .before .before .before .before .before .before .before .before .before .before .before .before .args in
+    let k = c .before .before .before .before .before .before .before .before .binder in
+    let w = c .before .before .before .before .before .before .before .before .before .before .before .before .before .before .before .before .word-limit in
+    let told = c .before .before .before .before .before .before .before .before .before .before .before .before .before .before .question2 .given in
+    let after : List ℕ → Tables = λ y. tables (k .last .1 .1 .0) (k .last .1 .1 .1 .0) y (k .last .1 .1 .1 .1 .1 .0) in
+    subst (λ (q : Question). Replies (a .s .now) q (tables (a .surface .now) (a .core .now) (front (a .count) (a .words .now) (a .words .now)) (a .work .now)) (a .text .now) (Reply.Bound (k .result)) (after (front (a .count) (a .words .now) (k .last .1 .1 .1 .1 .0 ++ drop (w .result) (a .words .now)))) (a .text .now)) (sym (told .1))
+    (left (a .count) (w .result) (a .words .now) (w .ensures) (k .last .1 .1 .1 .1 .0) (k .kept .1 .1 .1 .1 .0)
+    (λ x y. Replies (a .s .now) (Question.Binder (told .0 .0)) (tables (a .surface .now) (a .core .now) x (a .work .now)) (a .text .now) (Reply.Bound (k .result)) (after y) (a .text .now))
+    (refl, (k .ensures, refl)))
+
 pub ask-words-spec : {M : Type 1} → statement M
 ask-words-spec =
     tie.close
@@ -286,6 +326,10 @@ ask-words-spec =
     slice-relend-prefix-read-canonical
     slice-aggregate-read-canonical
     read-canonical-requires
+    enum-known-question-2
+    slice-relend-prefix-binder
+    slice-aggregate-binder
+    binder-requires
     same-length
     same-length-2
     same-length-3
@@ -313,4 +357,9 @@ ask-words-spec =
     same-length-20
     same-length-21
     same-length-22
-    returns-6)
+    returns-6
+    same-length-23
+    same-length-24
+    same-length-25
+    same-length-26
+    returns-7)

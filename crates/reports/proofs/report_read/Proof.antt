@@ -9,8 +9,8 @@ use Rattle.reports.proofs.report_read.Tie as tie
 enum-known-answer : tie.Need-enum-known-answer
 enum-known-answer c = search needs
 
-report-counts-requires : tie.Need-report-counts-requires
-report-counts-requires c κs = search needs
+report-two-requires : tie.Need-report-two-requires
+report-two-requires c κs = search needs
 
 enum-known-answer-2 : tie.Need-enum-known-answer-2
 enum-known-answer-2 c = search needs
@@ -19,7 +19,7 @@ report-refusal-requires : tie.Need-report-refusal-requires
 report-refusal-requires c κs = search needs
 
 returns : tie.Need-returns
-returns c = c .report-counts .ensures ∙ ap (λ x. numbers (report-read x)) (sym (c .before .before .answer .given .1))
+returns c = c .report-two .ensures ∙ ap (λ x. numbers (report-read x)) (sym (c .before .before .answer .given .1))
 
 returns-2 : tie.Need-returns-2
 returns-2 c = c .report-refusal .ensures ∙ ap (λ x. numbers (report-read x)) (sym (c .before .before .answer2 .given .1))
@@ -27,4 +27,4 @@ returns-2 c = c .report-refusal .ensures ∙ ap (λ x. numbers (report-read x)) 
 pub report-read-spec : {M : Type 1} → statement M
 report-read-spec =
     tie.close
-    (tie.spec enum-known-answer report-counts-requires enum-known-answer-2 report-refusal-requires returns returns-2)
+    (tie.spec enum-known-answer report-two-requires enum-known-answer-2 report-refusal-requires returns returns-2)

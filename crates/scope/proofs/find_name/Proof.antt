@@ -1,8 +1,8 @@
 -- `find_name` meets its contract.
-use mathlib.Core.Path.{refl, sym, _∙_, ap, subst}
-use Rattle.scope.specs.Scope.{place-of, local-names, declared-names}
+use mathlib.Core.Path.{refl, sym, _∙_, ap, ap₂, subst}
+use Rattle.terms.specs.Lookup.{refers}
+use Rattle.scope.specs.Scope.{found-of}
 use Rattle.scope.specs.Index.{Searched}
-use Rattle.scope.proofs.Search.{referred}
 use borrow.Author.Needs.{needs}
 use Rattle.scope.proofs.find_name.Statement.{statement}
 use Rattle.scope.proofs.find_name.Tie as tie
@@ -26,30 +26,20 @@ enum-told-2 : tie.Need-enum-told-2
 enum-told-2 c = search needs
 
 returns : tie.Need-returns
-returns c =
-    let a = c .before .before .before .before .before .before .before .before .args in
-    let ls = local-names (a .s .now) (a .work .now) (a .depth) in
-    let gs = declared-names (a .s .now) (a .declarations .now) 0 (a .d) in
-    referred (a .s .now) ls gs (a .start) (a .length) _ _ (sym (ap place-of (c .before .l .given .1)) ∙ c .before .before .before .find-local .ensures) refl
+returns c = ap₂ refers (sym (ap found-of (c .before .l .given .1)) ∙ c .before .before .before .find-local .ensures) refl
 
 returns-2 : tie.Need-returns-2
 returns-2 c =
     let a = c .before .before .before .before .before .before .before .before .before .before .before .args in
-    let ls = local-names (a .s .now) (a .work .now) (a .depth) in
-    let gs = declared-names (a .s .now) (a .declarations .now) 0 (a .d) in
     let x = c .before .before .before .before in
-    referred (a .s .now) ls gs (a .start) (a .length) _ _
-    (sym (ap place-of (x .enum-told .given .1)) ∙ x .before .before .find-local .ensures)
+    ap₂ refers (sym (ap found-of (x .enum-told .given .1)) ∙ x .before .before .find-local .ensures)
     (subst (Searched (a .s .now) (a .declarations .now) _ (a .d) (a .index .now)) (c .before .g .given .1) (c .before .before .before .find-indexed .ensures))
 
 returns-3 : tie.Need-returns-3
 returns-3 c =
     let a = c .before .before .before .before .before .before .before .before .before .before .args in
-    let ls = local-names (a .s .now) (a .work .now) (a .depth) in
-    let gs = declared-names (a .s .now) (a .declarations .now) 0 (a .d) in
     let x = c .before .before .before in
-    referred (a .s .now) ls gs (a .start) (a .length) _ _
-    (sym (ap place-of (x .enum-told .given .1)) ∙ x .before .before .find-local .ensures)
+    ap₂ refers (sym (ap found-of (x .enum-told .given .1)) ∙ x .before .before .find-local .ensures)
     (subst (Searched (a .s .now) (a .declarations .now) _ (a .d) (a .index .now)) (c .enum-told2 .given .1) (c .before .before .find-indexed .ensures) .0)
 
 pub find-name-spec : {M : Type 1} → statement M

@@ -24,6 +24,15 @@ mul-work-2 c = search needs
 slice-write-work-2 : tie.Need-slice-write-work-2
 slice-write-work-2 c = simp length-set (omega arith)
 
+add-work-2 : tie.Need-add-work-2
+add-work-2 c = search needs
+
+mul-work-3 : tie.Need-mul-work-3
+mul-work-3 c = search needs
+
+slice-write-work-3 : tie.Need-slice-write-work-3
+slice-write-work-3 c = simp length-set (omega arith)
+
 same-length : tie.Need-same-length
 same-length c = search needs
 
@@ -31,7 +40,7 @@ returns : tie.Need-returns
 returns c =
     let o = c in
     let a = o .args in
-    local-pushed (a .work .now) (o .pre .1) (a .l) (a .start) (a .length) (o .pre .0)
+    local-pushed (a .work .now) (o .pre .1) (a .l) (a .start) (a .length) (a .row) (o .pre .0)
 
 pub push-local-spec : {M : Type 1} → statement M
 push-local-spec =
@@ -43,5 +52,8 @@ push-local-spec =
     add-work
     mul-work-2
     slice-write-work-2
+    add-work-2
+    mul-work-3
+    slice-write-work-3
     same-length
     returns)

@@ -1,9 +1,9 @@
 -- `covers` meets its contract.
 use mathlib.Core.Path.{sym}
 use mathlib.Core.Logic.{inl, inr}
-use Rattle.elaborate.proofs.Covering.{covers-second, covers-first, covers-none}
-use Rattle.elaborate.proofs.covers.Statement.{statement}
-use Rattle.elaborate.proofs.covers.Tie as tie
+use Rattle.rows.proofs.Covering.{covers-second, covers-first, covers-none}
+use Rattle.rows.proofs.covers.Statement.{statement}
+use Rattle.rows.proofs.covers.Tie as tie
 
 returns : tie.Need-returns
 returns c = covers-second (c .before .args .kind) (c .before .args .i) (c .match .keys1)

@@ -1,0 +1,8 @@
+mod First
+mod Spans
+mod Rows
+mod Stepping
+mod Going
+mod Walking
+mod Scopes
+mod Asking

@@ -1,0 +1,10 @@
+pub mod Located
+pub mod Referents
+pub mod Modules
+pub mod SameCounts
+pub mod Known
+pub mod ByScope
+pub mod EveryRow
+pub mod OneAnswer
+pub mod CoreKept
+pub mod Statements

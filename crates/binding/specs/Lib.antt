@@ -1,0 +1,2 @@
+pub mod Binds
+pub mod Statements
