@@ -1,5 +1,6 @@
 /* sulyterom.h: loads a hott-surface/0.1 source into a numbered core module that a kernel can check, tells which
-   declarations depend on which, and writes and reads core text, by which stations exchange core modules.
+   declarations depend on which and what binds a reference, and writes and reads core text, by which stations exchange
+   core modules.
 
    `rt staticlib sulyterom` makes target/staticlib/libsulyterom.a for x86-64 Linux. Link it:
 
@@ -43,9 +44,9 @@
 
 /* The version of this header and of the library beside it. */
 #define SULYTEROM_VERSION_MAJOR 0
-#define SULYTEROM_VERSION_MINOR 3
+#define SULYTEROM_VERSION_MINOR 4
 #define SULYTEROM_VERSION_PATCH 0
-#define SULYTEROM_VERSION_TEXT "0.3.0"
+#define SULYTEROM_VERSION_TEXT "0.4.0"
 
 #ifdef __cplusplus
 extern "C" {
@@ -112,7 +113,8 @@ typedef enum sulyterom_class {
     SULYTEROM_CORE_SHORT = 10,       /* fewer core rows lent than the source has terms */
     SULYTEROM_WORK_SHORT = 11,       /* under SULYTEROM_WORK_WORDS words of work area */
     /* From the question. */
-    SULYTEROM_NO_DECLARATION = 12, /* dependence asked of a place that is no declaration */
+    SULYTEROM_NO_DECLARATION = 12, /* dependence asked of a place that is no declaration, or the binder of a row that is
+                                      no reference */
     /* From a core text that is read. */
     SULYTEROM_CORE_TEXT = 13, /* at the byte, or the first byte of the token, that does not fit; at 0 for a name that is
                                  used twice; without a place for a text that is not its own print */
@@ -264,6 +266,20 @@ uint8_t sulyterom_depends(const uint8_t *source, size_t source_length, size_t i,
                           size_t declarations_length, uint32_t *work, size_t work_length, uint64_t *answer,
                           size_t answer_length);
 
+/* Asks what binds the reference at a row: the innermost pi, sigma or lam of its name in whose codomain or body it
+   stands or, where there is none, the earlier declaration of its name. The source is loaded first.
+
+   A form: returns 0 and leaves in answer 2, the count, which is that of the core row, and the surface row of the form,
+   which is higher than the reference's own. A declaration: returns 0 and leaves 1, its place, 0. After both the tables
+   hold what loading leaves.
+
+   Refused, by loading or, after it, since the row is no row of the source or is no ref (12, without a place): returns
+   the class, with the answer and the tables as sulyterom_load leaves them. */
+uint8_t sulyterom_binder(const uint8_t *source, size_t source_length, size_t row, uint32_t *surface,
+                         size_t surface_length, uint32_t *core, size_t core_length, uint32_t *declarations,
+                         size_t declarations_length, uint32_t *work, size_t work_length, uint64_t *answer,
+                         size_t answer_length);
+
 /* Asks whether two sources leave the same core: whether they agree in all but binder names, layout, comments and the
    module names. Each source is loaded into its own set of tables, the first one first; one work area serves both.
 
@@ -390,6 +406,17 @@ typedef struct sulyterom_dependence {
     size_t row; /* that shows it, if so */
 } sulyterom_dependence;
 
+/* What sulyterom_binder_in answers. */
+typedef struct sulyterom_binding {
+    sulyterom_class refused;
+    int has_offset;
+    size_t offset;
+    int is_local; /* whether a pi, sigma or lam binds the reference; else it is a declaration's name */
+    size_t count; /* of binders between the two, if local */
+    size_t row;   /* of the binding form in the surface table, if local */
+    size_t place; /* of the declaration, if not */
+} sulyterom_binding;
+
 /* What sulyterom_same_in answers. */
 typedef struct sulyterom_comparison {
     sulyterom_class refused;
@@ -494,6 +521,29 @@ static inline sulyterom_dependence sulyterom_depends_in(const uint8_t *source, s
     return told;
 }
 
+/* As sulyterom_binder. */
+static inline sulyterom_binding sulyterom_binder_in(const uint8_t *source, size_t source_length, size_t row,
+                                                    const sulyterom_tables *tables) {
+    uint64_t answer[SULYTEROM_ANSWER_WORDS] = {0, 0, 0};
+    sulyterom_binding told = {SULYTEROM_ACCEPTED, 0, 0, 0, 0, 0, 0};
+    told.refused = (sulyterom_class)sulyterom_binder(
+        source, source_length, row, (uint32_t *)tables->surface, tables->surface_rows * SULYTEROM_ROW_WORDS,
+        (uint32_t *)tables->core, tables->core_rows * SULYTEROM_ROW_WORDS, (uint32_t *)tables->declarations,
+        tables->declaration_records * SULYTEROM_RECORD_WORDS, tables->work, tables->work_words, answer,
+        SULYTEROM_ANSWER_WORDS);
+    if (told.refused != SULYTEROM_ACCEPTED) {
+        told.has_offset = answer[0] == 1;
+        told.offset = (size_t)answer[1];
+    } else if (answer[0] == 2) {
+        told.is_local = 1;
+        told.count = (size_t)answer[1];
+        told.row = (size_t)answer[2];
+    } else {
+        told.place = (size_t)answer[1];
+    }
+    return told;
+}
+
 /* As sulyterom_same. The work area of the first tables serves both; that of the second is not used. */
 static inline sulyterom_comparison sulyterom_same_in(const uint8_t *first, size_t first_length, const uint8_t *second,
                                                      size_t second_length, const sulyterom_tables *tables1,
@@ -575,7 +625,7 @@ static inline const char *sulyterom_class_text(sulyterom_class number) {
     case SULYTEROM_DECLARATIONS_FULL: return "declaration list full";
     case SULYTEROM_CORE_SHORT: return "core table has fewer rows than were read";
     case SULYTEROM_WORK_SHORT: return "work area under 16,384 words";
-    case SULYTEROM_NO_DECLARATION: return "no declaration at a place asked of";
+    case SULYTEROM_NO_DECLARATION: return "no declaration at a place asked of, or no reference at a row";
     case SULYTEROM_CORE_TEXT: return "malformed or noncanonical core text";
     case SULYTEROM_TEXT_SHORT: return "text buffer shorter than the text";
     }

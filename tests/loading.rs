@@ -1,11 +1,13 @@
 //! Loading by the Rattle library against document 01 and the Rust:
-//! loading replay [FOLDER], card, compare [COUNT [SEED]], dependence [COUNT [SEED]], same [COUNT [SEED]],
-//! program EVERY PROGRAM.
+//! loading replay [FOLDER], card, compare [COUNT [SEED]], dependence [COUNT [SEED]], binder [COUNT [SEED]],
+//! same [COUNT [SEED]], program EVERY PROGRAM.
 #[cfg(mock)]
 #[allow(dead_code)]
 mod faults;
 mod loading {
     pub mod agreement;
+    pub mod binder;
+    pub mod bindings;
     pub mod card;
     pub mod check;
     pub mod compare;
@@ -24,6 +26,7 @@ mod loading {
     pub mod same;
     #[cfg(not(mock))]
     pub mod sameness;
+    pub mod scoped;
     pub mod short;
     pub mod sizes;
     pub mod station;
@@ -41,11 +44,14 @@ fn main() -> ExitCode {
         Some("compare") => loading::compare::run(number(1, loading::compare::COUNT), number(2, 3) as u64),
         Some("program") if words.len() > 2 => loading::program::run(number(1, 1), &words[2..]),
         Some("dependence") => loading::dependence::run(number(1, loading::dependence::COUNT), number(2, 4) as u64),
+        Some("binder") => loading::binder::run(number(1, loading::binder::COUNT), number(2, 6) as u64),
         Some("same") => loading::same::run(number(1, loading::same::COUNT), number(2, 5) as u64),
         #[cfg(mock)]
         Some("--faults") => print_all(&common::fault::LOADING),
         #[cfg(mock)]
         Some("--dependence-faults") => print_all(&common::fault::DEPENDENCE),
+        #[cfg(mock)]
+        Some("--binder-faults") => print_all(&common::fault::BINDER),
         #[cfg(mock)]
         Some("--same-faults") => print_all(&common::fault::SAME),
         #[cfg(mock)]
@@ -56,8 +62,8 @@ fn main() -> ExitCode {
         _ => loading::mock::listing::command(&words),
         #[cfg(not(mock))]
         _ => {
-            let counts = "compare [COUNT [SEED]] | dependence [COUNT [SEED]] | same [COUNT [SEED]]";
-            eprintln!("usage: loading replay [FOLDER] | card | {counts} | program EVERY PROGRAM");
+            let parts = ["compare", "dependence", "binder", "same"].map(|part| format!("{part} [COUNT [SEED]]"));
+            eprintln!("usage: loading replay [FOLDER] | card | {} | program EVERY PROGRAM", parts.join(" | "));
             ExitCode::from(2)
         }
     }

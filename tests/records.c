@@ -1,6 +1,6 @@
 /* Lends rows and declarations as structs, by the inline functions of sulyterom.h, and compares with the calls that lend
    words: the answer and every word must be equal, for lists of many lengths, and what lies behind the list must stay.
-   Then the listing, reading alone, tokens and core text.
+   Then binders, the listing, reading alone, tokens and core text.
    The last line is 'N passed, M failed'. */
 #include "sulyterom.h"
 
@@ -83,6 +83,42 @@ static void asks(const char *source, size_t length, size_t i, size_t j, size_t n
     int equal = number == 0 ? answers((uint64_t)told.yes, told.row, 0) && !told.has_offset && told.offset == 0
                             : answers((uint64_t)told.has_offset, told.offset, 0) && !told.yes && told.row == 0;
     check(equal && number == told.refused && left(&words, &structs, n), "a dependence", length, n);
+}
+
+static void binds(const char *source, size_t length, size_t row, size_t n) {
+    const uint8_t *s = (const uint8_t *)source;
+    fill(&words);
+    fill(&structs);
+    uint8_t number = sulyterom_binder(s, length, row, &words.surface[0].kind, ROW_WORDS, &words.core[0].kind, ROW_WORDS,
+                                      &words.list[0].kind, n * 5, words.work, WORK, answer, 3);
+    sulyterom_tables tables = lent(&structs, n);
+    sulyterom_binding told = sulyterom_binder_in(s, length, row, &tables);
+    int nowhere = !told.has_offset && told.offset == 0, unbound = !told.is_local && told.count == 0 && told.row == 0;
+    int equal;
+    if (number != 0) {
+        equal = answers((uint64_t)told.has_offset, told.offset, 0) && unbound && told.place == 0;
+    } else if (told.is_local) {
+        equal = answers(2, told.count, told.row) && nowhere && told.place == 0;
+    } else {
+        equal = answers(1, told.place, 0) && nowhere && unbound;
+    }
+    check(equal && number == told.refused && left(&words, &structs, n), "a binder", length, n);
+}
+
+/* What the answer of the struct says of a source: the form's row is a form of the name. */
+static void binders(void) {
+    static const char source[] = HEAD "(postulate x nat)(postulate y (pi x (ref x) (lam z (ref x))))";
+    fill(&structs);
+    sulyterom_tables tables = lent(&structs, 2);
+    sulyterom_binding told = sulyterom_binder_in((const uint8_t *)source, sizeof source - 1, 1, &tables);
+    check(told.refused == SULYTEROM_ACCEPTED && !told.is_local && told.place == 0, "a declaration", 1, 2);
+    told = sulyterom_binder_in((const uint8_t *)source, sizeof source - 1, 2, &tables);
+    check(told.refused == SULYTEROM_ACCEPTED && told.is_local && told.count == 1 && told.row == 4, "a binder", 2, 2);
+    const sulyterom_row *form = &structs.surface[told.row];
+    check(form->kind == SULYTEROM_PI && form->fields[1] == 1 && source[form->fields[0]] == 'x', "a binder's row", 4, 2);
+    check(form->offset == (size_t)(strstr(source, "(pi x") - source), "where a binder starts", 4, 2);
+    told = sulyterom_binder_in((const uint8_t *)source, sizeof source - 1, 4, &tables);
+    check(told.refused == SULYTEROM_NO_DECLARATION && !told.has_offset && !told.is_local, "no reference", 4, 2);
 }
 
 static void compares(const char *one, const char *other, size_t m, size_t n) {
@@ -298,6 +334,7 @@ int main(void) {
     classes();
     tokens();
     offsets();
+    binders();
     core_text();
     lists(HEAD "(postulate x nat)(postulate y (pi x (ref x) (ref x)))",
           "nodes 4 declarations 2\n0 nat\n1 global 0\n2 var 0\n3 pi 1 2\n0 postulate x 0\n1 postulate y 3\n",
@@ -329,7 +366,14 @@ int main(void) {
             asks(input, length, i, j, 13108);
         }
     }
+    for (size_t row = 0; row < 9; row++) {
+        binds(input, length, row, 2);
+        binds(input, length, row, 3);
+        binds(input, length, row, 13108);
+        binds(input, length - row, row, 3);
+    }
     for (size_t k = 0; k < sizeof others / sizeof others[0]; k++) {
+        binds(others[k], strlen(others[k]), 0, 3);
         compares(others[k], input, 2, 3);
         compares(input, others[k], 3, 13108);
         compares(input, input, 2, 3);

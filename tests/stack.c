@@ -38,6 +38,22 @@ static void *depends(void *unused) {
     return unused;
 }
 
+/* The last row that is a reference, if there is one. */
+static size_t reference(void) {
+    size_t row = sulyterom_load_into((const uint8_t *)source, length, &tables[0]).rows;
+    while (row-- > 0) {
+        if (surface[0][row].kind == SULYTEROM_REF) return row;
+    }
+    return 0;
+}
+
+static size_t asked;
+
+static void *binder(void *unused) {
+    sulyterom_binder_in((const uint8_t *)source, length, asked, &tables[0]);
+    return unused;
+}
+
 static void *same(void *unused) {
     sulyterom_same_in((const uint8_t *)source, length, (const uint8_t *)source, length, &tables[0], &tables[1]);
     return unused;
@@ -87,8 +103,10 @@ static void check(const char *what, void *(*call)(void *)) {
 
 static void all(const char *what) {
     printf("%s, %zu bytes\n", what, length);
+    asked = reference();
     check("loading", load);
     check("a dependence", depends);
+    check("a binder", binder);
     check("a comparison", same);
     check("printing", print);
     check("reading a core text", read_core);

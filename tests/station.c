@@ -116,6 +116,12 @@ static uint8_t depends(const char *source, size_t i, size_t j, lengths lent) {
                              declarations, lent.declarations, work, lent.work, answer, 3);
 }
 
+static uint8_t binder(const char *source, size_t row, lengths lent) {
+    fill();
+    return sulyterom_binder((const uint8_t *)source, strlen(source), row, surface, lent.surface, core, lent.core,
+                            declarations, lent.declarations, work, lent.work, answer, 3);
+}
+
 /* The buffer that is printed into. */
 static uint8_t buffer[200];
 
@@ -226,6 +232,37 @@ static const char *nested(int forms) {
     return text;
 }
 
+/* 12 or another refusal to say what binds a row, which leaves 0. */
+static void refuses_to_bind(const char *what, const char *source, size_t row, lengths lent, uint8_t number, int offset) {
+    int told = binder(source, row, lent) == number;
+    told = told && (offset < 0 ? answers(0, 0, 0) : answers(1, (uint64_t)offset, 0));
+    check(what, told && hold(lent, nothing, nothing, nothing));
+}
+
+static void binds(void) {
+    check("the domain's x is the declaration", binder(input, 1, whole) == 0 && answers(1, 0, 0));
+    check("a declaration leaves what loading leaves", hold(whole, surface_rows, core_rows, records));
+    check("the codomain's x is bound by row 3", binder(input, 2, whole) == 0 && answers(2, 0, 3));
+    check("a binder leaves what loading leaves", hold(whole, surface_rows, core_rows, records));
+    check("past another binder", binder(HEAD "(postulate a (lam x (pi y nat (ref x))))", 1, whole) == 0 && answers(2, 1, 3));
+    check("the inner of two", binder(HEAD "(postulate a (lam x (lam x (ref x))))", 0, whole) == 0 && answers(2, 0, 1));
+    check("_ binds", binder(HEAD "(postulate a (lam _ (ref _)))", 0, whole) == 0 && answers(2, 0, 1));
+    refuses_to_bind("nat is no reference: 12", input, 0, whole, SULYTEROM_NO_DECLARATION, -1);
+    refuses_to_bind("nor is pi: 12", input, 3, whole, SULYTEROM_NO_DECLARATION, -1);
+    refuses_to_bind("a spare row: 12", input, 4, whole, SULYTEROM_NO_DECLARATION, -1);
+    refuses_to_bind("no row of the table: 12", input, 5, whole, SULYTEROM_NO_DECLARATION, -1);
+    refuses_to_bind("the last number: 12", input, SIZE_MAX, whole, SULYTEROM_NO_DECLARATION, -1);
+    refuses_to_bind("eight times it is row 2's first word: 12", input, SIZE_MAX / 8 + 3, whole, SULYTEROM_NO_DECLARATION, -1);
+    refuses_to_bind("the head has no row: 12", HEAD, 0, whole, SULYTEROM_NO_DECLARATION, -1);
+    refuses_to_bind("loading first: 1 at 1", "(", SIZE_MAX, whole, SULYTEROM_MALFORMED, 1);
+    refuses_to_bind("loading first: 5", HEAD "(postulate a (ref q))", 0, whole, SULYTEROM_UNKNOWN_NAME, -1);
+    lengths lent = whole;
+    lent.core = 31;
+    refuses_to_bind("31 words of core rows: 10", input, 2, lent, SULYTEROM_CORE_SHORT, -1);
+    lent.surface = 31;
+    refuses_to_bind("31 words of surface rows: 8", input, 9, lent, SULYTEROM_SURFACE_FULL, -1);
+}
+
 static void prints_and_reads(void) {
     size_t length = strlen(core_text);
     check("01's input printed", print(input, whole, sizeof buffer) == 0 && answers(1, length, 0));
@@ -316,6 +353,8 @@ int main(void) {
     check("loading comes first: 1 at 1", depends("(", 2, 2, whole) == SULYTEROM_MALFORMED && answers(1, 1, 0));
     check("a refused load leaves 0", hold(whole, nothing, nothing, nothing));
 
+    binds();
+
     check("the same as itself", same(input, input) == 0 && answers(0, 0, 0));
     check("a yes leaves what loading leaves", hold(whole, surface_rows, core_rows, records));
     check("a yes leaves it for both", second_hold(surface_rows, core_rows, records));
@@ -340,6 +379,9 @@ int main(void) {
           sulyterom_load((const uint8_t *)input, strlen(input), surface, SURFACE, core, CORE, declarations,
                          DECLARATIONS, work, WORK, answer, 2) == 0);
     check("room for two numbers: the answer is left as it is", answer[0] == 0xa5a5a5a5a5a5a5a5u);
+    check("room for two numbers: a binder",
+          sulyterom_binder((const uint8_t *)input, strlen(input), 2, surface, SURFACE, core, CORE, declarations,
+                           DECLARATIONS, work, WORK, answer, 2) == 0);
     check("room for two numbers: printed",
           sulyterom_print((const uint8_t *)input, strlen(input), surface, SURFACE, core, CORE, declarations,
                           DECLARATIONS, work, WORK, buffer, sizeof buffer, answer, 2) == 0);

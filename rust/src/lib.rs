@@ -46,7 +46,8 @@
 //! ```
 //!
 //! A [`Loader`] has tables of its own and grows them. Where memory is lent by someone else, or is to have a limit, the
-//! functions [`load`], [`depends`], [`same`], [`print`], [`read_core`] and [`read_canonical`] take [`Tables`] of any sizes.
+//! functions [`load`], [`depends`], [`binder`], [`same`], [`print`], [`read_core`] and [`read_canonical`] take [`Tables`] of
+//! any sizes.
 //!
 //! # Building
 //!
@@ -57,6 +58,7 @@
 extern crate alloc;
 
 mod atom;
+mod binding;
 mod comparison;
 mod core_text;
 mod declaration;
@@ -73,6 +75,7 @@ mod tables;
 mod token;
 
 pub use atom::Atom;
+pub use binding::{Binding, Bound};
 pub use comparison::Comparison;
 pub use core_text::{CoreText, TextRow};
 pub use declaration::{Declaration, DeclarationKind};
@@ -181,6 +184,37 @@ where
 {
     let told = library::depends(source, i, j, tables.lend());
     Dependence::told(source, tables, told)
+}
+
+/// Asks what binds the reference at a row: the innermost `pi`, `sigma` or `lam` of its name in whose codomain or body it
+/// stands or, where there is none, the earlier declaration of its name.
+///
+/// The source is loaded first, and an answer leaves the tables as [`load`] does: it shows both.
+///
+/// # Errors
+///
+/// A [`Refusal`] of loading, or [`Class::NoDeclaration`] if the row is no row of the source or is no reference; every word
+/// of the tables is then 0.
+///
+/// ```
+/// use sulyterom::{Binding, Class, Tables, binder};
+///
+/// let source = b"(surface 0 1)(module m)(postulate x nat)(postulate y (pi x (ref x) (ref x)))";
+/// let mut tables = Tables::for_bytes(source.len());
+/// // The domain does not see the binder, so there x is the declaration.
+/// assert_eq!(binder(source, 1, &mut tables)?.binding, Binding::Global { place: 0 });
+/// let bound = binder(source, 2, &mut tables)?;
+/// assert_eq!(bound.binding, Binding::Local { count: 0, row: 3 });
+/// assert_eq!(bound.loaded.term(3), Some(&b"(pi x (ref x) (ref x))"[..]));
+/// assert_eq!(binder(source, 3, &mut tables).unwrap_err().class, Class::NoDeclaration);
+/// # Ok::<(), sulyterom::Refusal>(())
+/// ```
+pub fn binder<'a, W>(source: &'a [u8], row: usize, tables: &'a mut Tables<W>) -> Result<Bound<'a>, Refusal>
+where
+    W: AsRef<[u32]> + AsMut<[u32]>,
+{
+    let told = library::binder(source, row, tables.lend());
+    Bound::told(source, tables, told)
 }
 
 /// Asks whether two sources leave the same core: whether they agree in all but binder names, layout, comments and the

@@ -37,6 +37,22 @@ unsafe extern "C" {
         answer_length: usize,
     ) -> u8;
 
+    fn sulyterom_binder(
+        source: *const u8,
+        source_length: usize,
+        row: usize,
+        surface: *mut u32,
+        surface_length: usize,
+        core: *mut u32,
+        core_length: usize,
+        declarations: *mut u32,
+        declarations_length: usize,
+        work: *mut u32,
+        work_length: usize,
+        answer: *mut u64,
+        answer_length: usize,
+    ) -> u8;
+
     fn sulyterom_same(
         first: *const u8,
         first_length: usize,
@@ -165,6 +181,30 @@ pub fn depends(source: &[u8], i: usize, j: usize, lent: Tables<&mut [u32]>) -> T
             source.len(),
             i,
             j,
+            lent.surface.as_mut_ptr(),
+            lent.surface.len(),
+            lent.core.as_mut_ptr(),
+            lent.core.len(),
+            lent.declarations.as_mut_ptr(),
+            lent.declarations.len(),
+            lent.work.as_mut_ptr(),
+            lent.work.len(),
+            answer.as_mut_ptr(),
+            answer.len(),
+        )
+    };
+    (class, answer)
+}
+
+/// The class, 0 for a reference; 2, the count and a row where a form binds it, 1 and a place for a declaration.
+pub fn binder(source: &[u8], row: usize, lent: Tables<&mut [u32]>) -> Told {
+    let mut answer = [0; 3];
+    // SAFETY: as above; any number may be asked of.
+    let class = unsafe {
+        sulyterom_binder(
+            source.as_ptr(),
+            source.len(),
+            row,
             lent.surface.as_mut_ptr(),
             lent.surface.len(),
             lent.core.as_mut_ptr(),

@@ -170,7 +170,7 @@ impl<'a> Loaded<'a> {
         self.declarations().position(|declaration| declaration.name.bytes == name)
     }
 
-    /// The references, in the order of the source.
+    /// The references, in the order of the source. Which form binds one is told by [`binder`](crate::binder).
     ///
     /// ```
     /// # use sulyterom::{Loader, Target};

@@ -1,7 +1,7 @@
 //! Tables that are kept and grow.
 use crate::library::Told;
 use crate::tables::{Needs, Sizes};
-use crate::{Comparison, CoreText, Dependence, Listing, Loaded, Printed, Refusal, Tables, library, text_room};
+use crate::{Bound, Comparison, CoreText, Dependence, Listing, Loaded, Printed, Refusal, Tables, library, text_room};
 use alloc::vec;
 use alloc::vec::Vec;
 
@@ -9,12 +9,13 @@ use alloc::vec::Vec;
 /// so that none is refused for their sizes.
 ///
 /// ```
-/// use sulyterom::{Comparison, Loader};
+/// use sulyterom::{Binding, Comparison, Loader};
 ///
 /// let mut loader = Loader::new();
 /// let source = b"(surface 0 1)(module m)(postulate x nat)(postulate y (ref x))";
 /// assert_eq!(loader.load(source)?.row_count(), 2);
 /// assert_eq!(loader.depends(source, 1, 0)?.row, Some(1));
+/// assert_eq!(loader.binder(source, 1)?.binding, Binding::Global { place: 0 });
 /// assert_eq!(loader.same(source, b"(surface 0 1)(module n)"), Comparison::Different { declaration: 0 });
 /// let text = loader.print(source)?;
 /// assert_eq!(loader.read_canonical(&text)?.row_count(), 2);
@@ -43,7 +44,7 @@ impl Loader {
     pub fn load<'a>(&'a mut self, source: &'a [u8]) -> Result<Loaded<'a>, Refusal> {
         let (tables, dense) = (&mut self.tables, &mut self.dense);
         let needs = Needs::of_source(source.len());
-        let told = enough(dense, [needs], |[sizes]| library::load(source, tables.grown(sizes)));
+        let told = enough(dense, [needs], |[sizes]| library::load(source, tables.resized(sizes)));
         Loaded::told(source, tables, told)
     }
 
@@ -52,7 +53,7 @@ impl Loader {
         let (tables, dense) = (&mut self.tables, &mut self.dense);
         let needs = Needs::of_source(source.len());
         Listing::with_room(crate::room(source), |text| {
-            enough(dense, [needs], |[sizes]| library::list(source, tables.grown(sizes), text))
+            enough(dense, [needs], |[sizes]| library::list(source, tables.resized(sizes), text))
         })
     }
 
@@ -64,16 +65,42 @@ impl Loader {
     pub fn depends<'a>(&'a mut self, source: &'a [u8], i: usize, j: usize) -> Result<Dependence<'a>, Refusal> {
         let (tables, dense) = (&mut self.tables, &mut self.dense);
         let needs = Needs::of_source(source.len());
-        let told = enough(dense, [needs], |[sizes]| library::depends(source, i, j, tables.grown(sizes)));
+        let told = enough(dense, [needs], |[sizes]| library::depends(source, i, j, tables.resized(sizes)));
         Dependence::told(source, tables, told)
+    }
+
+    /// Asks what binds the reference at a row, as [`binder`](crate::binder) does.
+    ///
+    /// ```
+    /// # use sulyterom::{Binding, Loader};
+    /// let source = b"(surface 0 1)(module m)(transparent f nat (lam x (lam x (app (ref x) zero))))";
+    /// let mut loader = Loader::new();
+    /// let rows: Vec<usize> = loader.load(source)?.references().map(|reference| reference.row).collect();
+    /// assert_eq!(rows, [1]);
+    /// let bound = loader.binder(source, rows[0])?;
+    /// // the inner lam, which ends before the outer one
+    /// assert_eq!(bound.binding, Binding::Local { count: 0, row: 4 });
+    /// assert_eq!(bound.loaded.offset(4), Some(49));
+    /// # Ok::<(), sulyterom::Refusal>(())
+    /// ```
+    ///
+    /// # Errors
+    ///
+    /// A [`Refusal`] of class 1 to 7 or 12.
+    pub fn binder<'a>(&'a mut self, source: &'a [u8], row: usize) -> Result<Bound<'a>, Refusal> {
+        let (tables, dense) = (&mut self.tables, &mut self.dense);
+        let needs = Needs::of_source(source.len());
+        let told = enough(dense, [needs], |[sizes]| library::binder(source, row, tables.resized(sizes)));
+        Bound::told(source, tables, told)
     }
 
     /// Asks whether two sources leave the same core, as [`same`](crate::same) does.
     pub fn same(&mut self, first: &[u8], second: &[u8]) -> Comparison {
         let (tables, others, dense) = (&mut self.tables, &mut self.others, &mut self.dense);
         let needs = [first, second].map(|source| Needs::of_source(source.len()));
-        let (class, answer) =
-            enough(dense, needs, |[one, other]| library::same(first, second, tables.grown(one), others.grown(other)));
+        let (class, answer) = enough(dense, needs, |[one, other]| {
+            library::same(first, second, tables.resized(one), others.resized(other))
+        });
         Comparison::from_numbers(class, answer)
     }
 
@@ -93,7 +120,7 @@ impl Loader {
         let (tables, dense) = (&mut self.tables, &mut self.dense);
         let mut text = vec![0; text_room(source.len())];
         let needs = Needs::of_source(source.len());
-        let told = enough(dense, [needs], |[sizes]| library::print(source, tables.grown(sizes), &mut text));
+        let told = enough(dense, [needs], |[sizes]| library::print(source, tables.resized(sizes), &mut text));
         text.truncate(Printed::length(told)?);
         Ok(text)
     }
@@ -122,7 +149,7 @@ impl Loader {
         ask: impl Fn(&[u8], Tables<&mut [u32]>) -> Told,
     ) -> Result<CoreText<'a>, Refusal> {
         let (tables, dense) = (&mut self.tables, &mut self.dense);
-        let told = enough(dense, [Needs::of_text(text.len())], |[sizes]| ask(text, tables.grown(sizes)));
+        let told = enough(dense, [Needs::of_text(text.len())], |[sizes]| ask(text, tables.resized(sizes)));
         CoreText::told(text, tables, told)
     }
 }

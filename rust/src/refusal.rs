@@ -30,7 +30,7 @@ pub enum Class {
     CoreShort = 10,
     /// The work area has under [`WORK_WORDS`](crate::WORK_WORDS) words.
     WorkShort = 11,
-    /// Dependence was asked of a place that is no declaration.
+    /// Dependence was asked of a place that is no declaration, or the binder of a row that is no reference.
     NoDeclaration = 12,
     /// A byte, or a token, of a core text that does not fit, with the offset of its first byte; offset 0 for a name that is
     /// used twice; or, with no offset, a text that is not its own print.
@@ -79,7 +79,7 @@ impl fmt::Display for Class {
             Self::DeclarationsFull => "declaration list full",
             Self::CoreShort => "core table has fewer rows than were read",
             Self::WorkShort => "work area under 16,384 words",
-            Self::NoDeclaration => "no declaration at a place asked of",
+            Self::NoDeclaration => "no declaration at a place asked of, or no reference at a row",
             Self::CoreText => "malformed or noncanonical core text",
             Self::TextShort => "text buffer shorter than the text",
         })

@@ -54,24 +54,15 @@ impl Tables {
         Self { surface: Vec::new(), core: Vec::new(), declarations: Vec::new(), work: Vec::new() }
     }
 
-    /// The beginnings of the tables that have these sizes. They grow where they are shorter; spare words are not lent, so
-    /// that nothing has to be set to 0 there.
-    pub(crate) fn grown(&mut self, Sizes { surface, core, declarations }: Sizes) -> Tables<&mut [u32]> {
-        Tables {
-            surface: beginning(&mut self.surface, surface * ROW_WORDS),
-            core: beginning(&mut self.core, core * ROW_WORDS),
-            declarations: beginning(&mut self.declarations, declarations * RECORD_WORDS),
-            work: beginning(&mut self.work, WORK_WORDS),
-        }
+    /// The tables with these sizes and no word more: a call has to clear no spare words, and behind what it leaves there
+    /// are none of a call before. The memory is kept.
+    pub(crate) fn resized(&mut self, Sizes { surface, core, declarations }: Sizes) -> Tables<&mut [u32]> {
+        self.surface.resize(surface * ROW_WORDS, 0);
+        self.core.resize(core * ROW_WORDS, 0);
+        self.declarations.resize(declarations * RECORD_WORDS, 0);
+        self.work.resize(WORK_WORDS, 0);
+        self.lend()
     }
-}
-
-/// So many words of a table, which has them afterwards.
-fn beginning(table: &mut Vec<u32>, words: usize) -> &mut [u32] {
-    if table.len() < words {
-        table.resize(words, 0);
-    }
-    &mut table[..words]
 }
 
 /// How many rows of each kind and declarations there is room for.

@@ -100,7 +100,8 @@ fn shown_as_the_listing_shows_them_and_a_sentence() {
     assert_eq!(shown(nowhere(Class::DeclarationsFull)), "refused 9: declaration list full");
     assert_eq!(shown(nowhere(Class::CoreShort)), "refused 10: core table has fewer rows than were read");
     assert_eq!(shown(nowhere(Class::WorkShort)), "refused 11: work area under 16,384 words");
-    assert_eq!(shown(nowhere(Class::NoDeclaration)), "refused 12: no declaration at a place asked of");
+    let question = "no declaration at a place asked of, or no reference at a row";
+    assert_eq!(shown(nowhere(Class::NoDeclaration)), format!("refused 12: {question}"));
     assert_eq!(shown(at(Class::CoreText, 7)), "refused 13 at 7: malformed or noncanonical core text");
     assert_eq!(shown(nowhere(Class::CoreText)), "refused 13: malformed or noncanonical core text");
     assert_eq!(shown(nowhere(Class::TextShort)), "refused 14: text buffer shorter than the text");

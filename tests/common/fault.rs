@@ -161,6 +161,33 @@ pub const DEPENDENCE: [&str; 14] = [
     "yes-clears-the-tables",
 ];
 
+/// Of the question for a reference's binder: the form, the declaration, the row that is asked of, the answer, the tables.
+pub const BINDER: [&str; 23] = [
+    "binder-outermost",
+    "binder-row-of-the-outermost",
+    "binder-row-of-the-domain",
+    "binder-row-of-the-codomain",
+    "binder-count-one-more",
+    "binder-count-from-outside",
+    "binder-covers-its-domain",
+    "binder-counts-in-its-domain",
+    "binder-lam-passed-over",
+    "binder-sigma-passed-over",
+    "binder-blank-passed-over",
+    "binder-names-by-length",
+    "binder-hidden-by-a-declaration",
+    "binder-places-from-1",
+    "binder-of-a-form",
+    "binder-rows-of-32-bits",
+    "binder-rows-by-their-words",
+    "binder-of-two-values-for-a-place",
+    "binder-values-swapped",
+    "binder-twelve-before-loading",
+    "binder-twelve-leaves-the-tables",
+    "binder-clears-the-tables",
+    "binder-leaves-the-work-area",
+];
+
 /// Of the same-core question.
 pub const SAME: [&str; 15] = [
     "digits-not-compared",
@@ -313,7 +340,7 @@ pub fn fault() -> &'static str {
     static FAULT: OnceLock<String> = OnceLock::new();
     FAULT.get_or_init(|| {
         let name = std::env::var("FAULT").unwrap_or_default();
-        let known = [&TEXT[..], &LOADING, &DEPENDENCE, &SAME, &LISTING, &PRINTING, &READING].concat();
+        let known = [&TEXT[..], &LOADING, &DEPENDENCE, &BINDER, &SAME, &LISTING, &PRINTING, &READING].concat();
         assert!(name.is_empty() || known.contains(&name.as_str()), "no fault is called {name}");
         name
     })

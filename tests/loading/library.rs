@@ -1,7 +1,7 @@
 //! The Rattle library `sulyterom` through the Rust crate over it, its answers as document 01's numbers again. Under
 //! `--cfg mock` the mock stands in its place.
 use super::tables::Tables;
-use sulyterom::Refusal;
+use sulyterom::{Binding, Refusal};
 
 /// The class, 0 for acceptance; the answer is how many values follow, and the values.
 pub fn load(source: &[u8], lent: Tables<&mut [u32]>, answer: &mut [u64; 3]) -> u8 {
@@ -14,6 +14,15 @@ pub fn load(source: &[u8], lent: Tables<&mut [u32]>, answer: &mut [u64; 3]) -> u
 pub fn depends(source: &[u8], [i, j]: [usize; 2], lent: Tables<&mut [u32]>, answer: &mut [u64; 3]) -> u8 {
     let shown = sulyterom::depends(source, i, j, &mut tables(lent)).map(|answer| at_most_one(answer.row));
     numbers(shown, answer)
+}
+
+/// What binds the reference at a row: the class, 0 for an answer; the answer is 2, a count and a row, or 1 and a place.
+pub fn binder(source: &[u8], row: usize, lent: Tables<&mut [u32]>, answer: &mut [u64; 3]) -> u8 {
+    let bound = sulyterom::binder(source, row, &mut tables(lent)).map(|bound| match bound.binding {
+        Binding::Local { count, row } => [2, count as u64, row as u64],
+        Binding::Global { place } => [1, place as u64, 0],
+    });
+    numbers(bound, answer)
 }
 
 pub fn tables(lent: Tables<&mut [u32]>) -> sulyterom::Tables<&mut [u32]> {

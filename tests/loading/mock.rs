@@ -1,5 +1,6 @@
 //! A loader written from document 01 alone, in the place of the Rattle library: to try the tests before it exists, and
 //! to see them fail by the mistakes of `common::fault`.
+mod binder;
 mod dependence;
 pub mod listing;
 mod reading;
@@ -51,6 +52,26 @@ pub fn depends(source: &[u8], places: [usize; 2], mut lent: Tables<&mut [u32]>, 
     };
     leave(&mut lent, &module, left);
     report(outcome.map(|row| row.into_iter().collect()), answer)
+}
+
+pub fn binder(source: &[u8], row: usize, mut lent: Tables<&mut [u32]>, answer: &mut [u64; 3]) -> u8 {
+    let mut module = Module::default();
+    let loaded = read_and_resolve(source, &lent, &mut module);
+    let outcome = match loaded {
+        Err(_) if is("binder-twelve-before-loading") && row == usize::MAX => Err(Refusal::nowhere(12)),
+        _ => loaded.and_then(|()| binder::answer(source, &module, row)),
+    };
+    let left = match &outcome {
+        Err(Refusal { class: 12, .. }) if is("binder-twelve-leaves-the-tables") => Ok(()),
+        Ok(_) if is("binder-clears-the-tables") => Err(Refusal::nowhere(0)),
+        Ok(_) => Ok(()),
+        Err(refusal) => Err(*refusal),
+    };
+    leave(&mut lent, &module, left);
+    if outcome.is_ok() && is("binder-leaves-the-work-area") {
+        lent.work[0] = 1;
+    }
+    report(outcome, answer)
 }
 
 /// Writes the values of an answer, and gives its class.

@@ -32,6 +32,11 @@ pub fn depends(source: &[u8], places: [usize; 2], sizes: Sizes, rubbish: Rubbish
     lend(sizes, rubbish, |lent, answer| library::depends(source, places, lent, answer))
 }
 
+/// Asks what binds the reference at a row.
+pub fn binder(source: &[u8], row: usize, sizes: Sizes, rubbish: Rubbish) -> Loaded {
+    lend(sizes, rubbish, |lent, answer| library::binder(source, row, lent, answer))
+}
+
 /// Asks whether two sources leave the same core. The work area is the first set's; the answer stands with both.
 pub fn same(sources: [&[u8]; 2], sizes: [Sizes; 2], rubbish: Rubbish) -> [Loaded; 2] {
     let mut second = None;

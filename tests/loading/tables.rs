@@ -1,4 +1,5 @@
 //! The four tables that loading is lent.
+use common::prng::Prng;
 
 /// "11 work area under 16,384 words"
 pub const WORK: usize = 16_384;
@@ -52,6 +53,8 @@ pub enum Rubbish {
     /// Numbers that could be kinds, rows and lengths.
     Small,
     Mixed,
+    /// Any numbers, from a seed.
+    Random(u64),
 }
 
 impl Rubbish {
@@ -62,6 +65,10 @@ impl Rubbish {
             Self::Ones => vec![u32::MAX; count],
             Self::Small => (0..count as u32).map(|at| at % 32 + 1).collect(),
             Self::Mixed => (0..count as u32).map(|at| at.wrapping_mul(0x9e37_79b1) | 1).collect(),
+            Self::Random(seed) => {
+                let mut prng = Prng::new(seed);
+                (0..count).map(|_| (prng.bits() as u32).max(1)).collect()
+            }
         }
     }
 }

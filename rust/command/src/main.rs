@@ -1,5 +1,6 @@
 //! The command `sulyterom`: files, words and exit statuses around the proved library, which gives every answer.
 mod answer;
+mod columns;
 mod questions;
 mod sentence;
 mod source;

@@ -1,12 +1,15 @@
 //! The questions, each answered by the library.
 use crate::answer::{Answer, NotAsked, Status};
+use crate::columns;
 use crate::sentence;
 use crate::source::Source;
 use crate::text_sentence;
 use std::ffi::OsStr;
 use std::fmt::Write;
 use std::path::Path;
-use sulyterom::{Class, Comparison, LONGEST_SOURCE, Loaded, Loader, Refusal, Tables, Target, TokenKind};
+use sulyterom::{
+    Binding, Class, Comparison, LONGEST_SOURCE, Loaded, Loader, Reference, Refusal, Tables, Target, TokenKind,
+};
 
 /// "It lends 1,024 rows to each row table, 256 declarations and a work area of 16,384 words."
 pub const ROWS: usize = 1_024;
@@ -40,17 +43,29 @@ pub enum Declaration<'a> {
     Name(&'a str),
 }
 
-/// No source has so many declarations.
+/// No source has so many declarations, nor so many rows.
 const NO_PLACE: usize = usize::MAX;
 
+/// The number that a word of digits says. What is over all numbers is no place and no row either.
+fn number(digits: &str) -> Option<usize> {
+    let known = !digits.is_empty() && digits.bytes().all(|byte| byte.is_ascii_digit());
+    known.then(|| digits.parse().unwrap_or(NO_PLACE))
+}
+
+/// A row as the command line gives it.
+pub fn row(word: &OsStr) -> Result<usize, NotAsked> {
+    let row = word.to_str().and_then(number);
+    row.ok_or_else(|| NotAsked(format!("{} is not the number of a row", Path::new(word).display())))
+}
+
 impl<'a> Declaration<'a> {
-    /// Digits are a place, other identifiers a name. A place over all numbers is no declaration's either.
+    /// Digits are a place, other identifiers a name.
     pub fn named(word: &'a OsStr) -> Result<Self, NotAsked> {
         let text = word.to_str().unwrap_or("");
-        let of = |allowed: fn(&u8) -> bool| !text.is_empty() && text.bytes().all(|byte| allowed(&byte));
-        if of(u8::is_ascii_digit) {
-            Ok(Self::Place(text.parse().unwrap_or(NO_PLACE)))
-        } else if of(|byte| byte.is_ascii_alphanumeric() || *byte == b'_') && !text.as_bytes()[0].is_ascii_digit() {
+        let letters = text.bytes().all(|byte| byte.is_ascii_alphanumeric() || byte == b'_');
+        if let Some(place) = number(text) {
+            Ok(Self::Place(place))
+        } else if letters && text.starts_with(|first: char| !first.is_ascii_digit()) {
             Ok(Self::Name(text))
         } else {
             Err(NotAsked(format!("{} is neither the place nor the name of a declaration", Path::new(word).display())))
@@ -108,20 +123,50 @@ pub fn rows(file: &OsStr) -> Result<Answer, NotAsked> {
 
 pub fn references(file: &OsStr) -> Result<Answer, NotAsked> {
     told(file, |source, loaded| {
-        let mut text = String::new();
-        for reference in loaded.references() {
-            let name = reference.name;
-            let _ = write!(text, "{} {name} ", source.position(name.start));
-            let _ = match reference.target {
-                Target::Var { count } => writeln!(text, "var {count}"),
-                Target::Global { place } => {
-                    let named = loaded.declaration(place).expect("a global's place is a declaration's").name;
-                    writeln!(text, "global {place} {named}")
-                }
-                _ => unreachable!("a reference is a var or a global"),
-            };
+        let mut asked = Loader::new();
+        let mut line = |reference| reference_line(source, loaded, reference, binding(source, reference, &mut asked));
+        columns::aligned(&loaded.references().map(&mut line).collect::<Vec<_>>())
+    })
+}
+
+/// What binds a reference of a loaded source. Loading tells a declaration's place; a form's row is asked for.
+fn binding(source: &Source, reference: Reference<'_>, asked: &mut Loader) -> Binding {
+    if let Target::Global { place } = reference.target {
+        return Binding::Global { place };
+    }
+    match asked.binder(&source.bytes, reference.row) {
+        Ok(bound) => bound.binding,
+        Err(refusal) => unreachable!("the library's promise rules out a reference without a binder: {refusal}"),
+    }
+}
+
+/// Where a reference's name stands, the name, what loading made of it, and what binds it: word and place of the form, or
+/// name and place of the declaration.
+fn reference_line(source: &Source, loaded: Loaded<'_>, reference: Reference<'_>, binding: Binding) -> [String; 6] {
+    let (word, number, binder, at) = match binding {
+        Binding::Local { count, row } => {
+            let (form, at) = loaded.row(row).zip(loaded.offset(row)).expect("a binder's row is a row");
+            ("var", count, form.word(), at)
         }
-        text
+        Binding::Global { place } => {
+            let name = loaded.declaration(place).expect("a global's place is a declaration's").name;
+            ("global", place, name.as_str(), name.start)
+        }
+    };
+    let position = |offset| source.position(offset).to_string();
+    let name = reference.name;
+    [position(name.start), name.to_string(), word.to_string(), number.to_string(), binder.to_string(), position(at)]
+}
+
+pub fn binder(file: &OsStr, row: usize) -> Result<Answer, NotAsked> {
+    let source = Source::read(file)?;
+    Ok(match Loader::new().binder(&source.bytes, row).map(|bound| bound.binding) {
+        Ok(Binding::Local { count, row }) => Answer::new(Status::Yes, format!("var {count} row {row}\n")),
+        Ok(Binding::Global { place }) => Answer::new(Status::Yes, format!("global {place}\n")),
+        Err(refusal) if refusal.class == Class::NoDeclaration => {
+            Answer::refused(refusal_line(refusal), sentence::no_reference(&source, row))
+        }
+        Err(refusal) => refused(&source, refusal, Storage::Large),
     })
 }
 

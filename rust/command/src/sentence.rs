@@ -187,6 +187,20 @@ pub fn partition(count: usize, mut holds: impl FnMut(usize) -> bool) -> usize {
     low
 }
 
+/// What stands at a row that is no reference, if anything does.
+pub fn no_reference(source: &Source, row: usize) -> String {
+    let mut loader = Loader::new();
+    let Ok(loaded) = loader.load(&source.bytes) else { return format!("{}: {}", source.name, Class::NoDeclaration) };
+    let why = match loaded.row(row) {
+        Some(term) => {
+            let what_to_do = "'sulyterom rows' prints references as var and global";
+            format!("row {row} is '{}' and no reference; {what_to_do}", term.word())
+        }
+        None => format!("there is no row {row}; its rows have the numbers from 0 to below {}", loaded.row_count()),
+    };
+    placed(source, (loaded.offset(row), why))
+}
+
 /// Which of the two is no declaration.
 pub fn no_declaration(source: &Source, asked: [Declaration<'_>; 2]) -> String {
     let mut loader = Loader::new();

@@ -17,6 +17,7 @@ pub enum Question<'a> {
     Rows(&'a OsStr),
     References(&'a OsStr),
     Depends(&'a OsStr, Declaration<'a>, Declaration<'a>),
+    Binder(&'a OsStr, usize),
     Same(&'a OsStr, &'a OsStr),
     Tokens(&'a OsStr),
     Core(&'a OsStr),
@@ -43,6 +44,7 @@ pub fn parsed(words: &[OsString]) -> Result<Question<'_>, NotAsked> {
         }
         ("readcore", [file]) => Ok(Question::ReadCore(Layout::Any, file)),
         ("same", [one, other]) => Ok(Question::Same(one, other)),
+        ("binder", [file, row]) => Ok(Question::Binder(file, questions::row(row)?)),
         ("depends", [file, i, j]) => Ok(Question::Depends(file, Declaration::named(i)?, Declaration::named(j)?)),
         (known, _) => Err(misused(known, word)),
     }
@@ -68,6 +70,7 @@ impl Question<'_> {
             Self::Rows(file) => questions::rows(file),
             Self::References(file) => questions::references(file),
             Self::Depends(file, i, j) => questions::depends(file, i, j),
+            Self::Binder(file, row) => questions::binder(file, row),
             Self::Same(one, other) => questions::same(one, other),
             Self::Tokens(file) => questions::tokens(file),
             Self::Core(file) => questions::core(file),
