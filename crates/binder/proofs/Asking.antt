@@ -34,7 +34,7 @@ use Rattle.elaborate.specs.Loadable.{Loadable}
 use Rattle.elaborate.proofs.ModuleRows.{loaded, loaded-fitting}
 use Rattle.elaborate.proofs.ResolvedTrees.{records-kept}
 use Rattle.loader.specs.Leaving.{leaving}
-use Rattle.loader.proofs.Cleared.{pad-is, cleared-whole}
+use Rattle.loader.proofs.Cleared.{pad-is, cleared-whole, cleared-pad}
 use Rattle.loader.proofs.WellRead.{well-read}
 use Rattle.binder.specs.inner.Walk.{declaration-with, root-with, walk, refers-at, Placed, binding-of}
 use Rattle.binder.proofs.Scopes.{There, there}
@@ -159,9 +159,6 @@ module _ (s : List ℕ) (z : Lengths) (k : ℕ) (r : Answer) (surface core decla
             let a : r ≡ Answer.Loaded (q .rows) (length ds) = ap (λ (o : Outcome). o .answer) h in
             record { ds = ds; q = q; loads = f; rows-are = cc; count-is = cc; same = ap (λ (o : Outcome). o .tables) h }
 
-    clears : (t : List ℕ) (n : ℕ) (x : List ℕ) → t ≡ pad n x → cleared t 0 ≡ pad n []
-    clears t n x e = cleared-whole t ∙ ap (λ (m : ℕ). pad m []) (ap length e ∙ length-pad n x)
-
     -- The row is a reference.
     module _ (f : ltb k rows && eqb (getD surface (k * 8) 0) 24 ≡ true) where
       inside : (ltb k rows ≡ true) × (eqb (getD surface (k * 8) 0) 24 ≡ true)
@@ -229,8 +226,8 @@ module _ (s : List ℕ) (z : Lengths) (k : ℕ) (r : Answer) (surface core decla
           subst (λ (o : Result (List Declaration)). Answers s k o (Binding.Refused (nowhere 12))) (sym (w .loads))
               (answers-other s z (w .ds) (w .q) (w .loads) k (subst (λ (t : List ℕ). ltb k (w .q .rows) && eqb (getD t (k * 8) 0) 24 ≡ false) a g)),
           (λ i. tables
-              (clears surface (z .surface) _ a i)
-              (clears core (z .core) _ (ap (λ (t : Tables). t .core) (w .same)) i)
-              (clears declarations (z .declarations) _ (ap (λ (t : Tables). t .declarations) (w .same)) i)
-              (clears work (z .work) _ (ap (λ (t : Tables). t .work) (w .same)) i)),
+              (cleared-pad surface (z .surface) _ a i)
+              (cleared-pad core (z .core) _ (ap (λ (t : Tables). t .core) (w .same)) i)
+              (cleared-pad declarations (z .declarations) _ (ap (λ (t : Tables). t .declarations) (w .same)) i)
+              (cleared-pad work (z .work) _ (ap (λ (t : Tables). t .work) (w .same)) i)),
         )

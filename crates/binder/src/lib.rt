@@ -140,7 +140,7 @@ fn walk(surface: &[u32], work: &mut [u32], root: u32, k: usize) -> usize
     way.locals
 }
 
-// What the reference at row k refers to, among so many declarations. Too few are asked about to make an index of them.
+// What the reference at row k refers to, among so many declarations. One name is looked up, so no index is made for it.
 fn refers_at(
     s: &[u8],
     surface: &[u32],

@@ -1,5 +1,5 @@
 -- The text of an accepted source is never too long for the reader: at most 20,000 bytes for each byte of the source, and 65 more.
-use mathlib.Core.Path.{_≡_, refl, sym, ap, _∙_, subst}
+use mathlib.Core.Path.{_≡_, refl, sym, subst}
 use mathlib.Core.List.{List, [], _∷_, _++_, map}
 use mathlib.Core.Option.{Option, none, some}
 use mathlib.Core.Bool.{Bool, true, false, cond}
@@ -9,47 +9,22 @@ use native.Mathlib.Decide.{decLt}
 use lib.Dec.{leb, eqb}
 use borrow.Author.Tests.{leb-true, eqb-true, eqb-false, lt-ltb, le-ltb}
 use lib.ListN.{length, drop, length-append, length-take}
-use Rattle.token.specs.Token.{next-token}
-use Rattle.token.specs.declared.TokenKind.{TokenKind}
 use Rattle.token.specs.declared.Token.{Token}
-use Rattle.token.proofs.Bounds.{Span, SpanOf, Within as Spans, bounds}
 use Rattle.terms.specs.Forms.{Shape, alone, with-name, with-numeral, binding, plain, Form, forms, Edition, form-of-kind, universe, ref}
 use Rattle.terms.specs.Tree.{Forest, nil, node, tree}
 use Rattle.terms.specs.Label.{Name, part, Label, Named, Declaration}
-use Rattle.terms.specs.Resolution.{find, next-number, Core, referent, core-of, covers, locals-in, resolve-module}
+use Rattle.terms.specs.Resolution.{find, Core, referent, core-of, covers, locals-in, resolve-module}
 use Rattle.terms.specs.TextForms.{text-forms}
-use Rattle.terms.proofs.Names.{none-some, some-inj, same?, find-yes, find-no}
+use Rattle.terms.proofs.Names.{find-below}
 use Rattle.terms.proofs.Spans.{core-of-ref, core-of-kept}
 use Rattle.terms.proofs.FormTable.{every, of-kind}
 use Rattle.surface.specs.Text.{text, label-with, label-alone}
-use Rattle.surface.specs.Grammar.{Tokens, the-end, the-next, Terms, no-term, leaf-term, ref-term, universe-term, binding-term, plain-term, Declarations, no-declaration, postulate, transparent, opaque, Head, head, Derives}
+use Rattle.surface.specs.Grammar.{Terms, no-term, leaf-term, ref-term, universe-term, binding-term, plain-term, Declarations, no-declaration, postulate, transparent, opaque, Head, head, Derives}
+use Rattle.surface.proofs.TokenSizes.{size, Sized, tokens-sized}
 use Rattle.printing.specs.Decimal.{digits, decimal}
 use Rattle.printing.specs.Printing.{print-shape, print-form, print-terms, declaration-word, print-declarations, text-head, print-module, print-text, spell-core, spelled-core}
 use Rattle.printing.specs.PrintCall.{text-of}
 use Rattle.core_module.proofs.Source.{Known, carried, core-terms, head-known}
-
--- The bytes of some tokens, each of which has some.
-abbrev size : List Token → ℕ
-size [] = 0
-size (t ∷ ts) = (t .end - t .start) + size ts
-
-abbrev Sized : List Token → Type 0
-Sized [] = Unit {0}
-Sized (t ∷ ts) = (t .start < t .end) × Sized ts
-
-span-of : (k : TokenKind) (lo a e hi : ℕ) → SpanOf k lo a e hi → ¬ (k ≡ TokenKind.Eof) → Span lo a e hi
-span-of TokenKind.LParen lo a e hi h n = h
-span-of TokenKind.RParen lo a e hi h n = h
-span-of TokenKind.Atom lo a e hi h n = h
-span-of TokenKind.String lo a e hi h n = h
-span-of TokenKind.Eof lo a e hi h n = absurd (n refl)
-
-tokens-sized : (s : List ℕ) {at : ℕ} {ts : List Token} → Tokens (next-token s) at ts → at ≤ length s → Sized ts × (at + size ts ≤ length s)
-tokens-sized s (the-end e k) h = (tt, omega arith)
-tokens-sized s {at} (the-next {t = t} {ts = ts} e k r) h =
-    let w = span-of (t .kind) at (t .start) (t .end) (length s) (subst (Spans at (length s)) e (bounds s at)) k in
-    let y = tokens-sized s r (w .high) in
-    ((w .some, y .0), omega (arith, w .low, w .some, y .1))
 
 -- Digits, and places in a list.
 digits-short : (k n : ℕ) → length (digits k n) ≤ n + 1
@@ -65,21 +40,11 @@ decimal-short : (n : ℕ) → length (decimal n) ≤ n + 1
 unfolding decimal
 decimal-short n = digits-short n n
 
-find-short : (x : Name) (l : List Name) (i : ℕ) → find x l ≡ some i → i < length l
-unfolding find
-find-short x [] i e = none-some e
-find-short x (y ∷ l) i e = go (find-short x l) (same? x y) (find x l) refl
-  where
-    go : ((i : ℕ) → find x l ≡ some i → i < length l) → Dec (x ≡ y) → (o : Option ℕ) → find x l ≡ o → i < suc (length l)
-    go ih (yes h) o f = let z = some-inj (sym (find-yes x y l h) ∙ e) in omega arith
-    go ih (no h) none f = none-some (sym (ap next-number f) ∙ sym (find-no x y l h) ∙ e)
-    go ih (no h) (some j) f = let z : suc j ≡ i = some-inj (sym (ap next-number f) ∙ sym (find-no x y l h) ∙ e) in omega (arith, ih j f)
-
 -- The numerals that are printed.
 referent-short : (s : List ℕ) (m : Label) (x : Name) (l g : List Name) (a b : Option ℕ) → find x l ≡ a → find x g ≡ b → length l ≤ 65535 → length g ≤ 65535
     → length (spell-core s m (referent a b) .name) ≤ 65535
-referent-short s m x l g (some i) b e f h k = omega (arith, decimal-short i, find-short x l i e)
-referent-short s m x l g none (some j) e f h k = omega (arith, decimal-short j, find-short x g j f)
+referent-short s m x l g (some i) b e f h k = omega (arith, decimal-short i, find-below x l i e)
+referent-short s m x l g none (some j) e f h k = omega (arith, decimal-short j, find-below x g j f)
 referent-short s m x l g none none e f h k = omega arith
 
 ref-short : (s : List ℕ) (l g : List Name) (m : Label) → eqb (m .kind) ref ≡ true → length l ≤ 65535 → length g ≤ 65535 → length (spell-core s m (core-of s l g m) .name) ≤ 65535

@@ -2,7 +2,7 @@
 use mathlib.Core.Path.{_≡_, refl, sym, ap, _∙_, subst}
 use mathlib.Core.Bool.{Bool, true, false, _&&_, and-eq-true-iff}
 use mathlib.Core.List.{List, []}
-use Prim.Native.Nat.{ℕ, _<_}
+use Prim.Native.Nat.{ℕ, _-_, _<_}
 use native.Mathlib.Omega.{arith}
 use lib.Dec.{ltb}
 use borrow.Author.Tests.{ltb-true}
@@ -10,17 +10,17 @@ use lib.ListN.{length}
 use Rattle.token.specs.declared.Refusal.{Refusal}
 use Rattle.terms.specs.Label.{Declaration}
 use Rattle.terms.specs.Rows.{pad}
-use Rattle.terms.proofs.Tables.{length-pad}
 use Rattle.tables.specs.Tables.{cleared}
 use Rattle.surface.specs.declared.Answer.{Answer}
-use Rattle.surface.specs.declared.Dependence.{Dependence}
 use Rattle.surface.specs.Reader.{Position, start, Result, done, refused, after, require, nowhere}
 use Rattle.surface.specs.Loading.{Lengths, loading, Outcome, outcome, load}
-use Rattle.surface.specs.Dependence.{asking, ask, Answers}
+use Rattle.dependence.specs.declared.Dependence.{Dependence}
+use Rattle.dependence.specs.Asks.{asking, ask, Answers}
+use Rattle.dependence.proofs.Few.{places-fit}
 use Rattle.loader.specs.Leaving.{leaving}
-use Rattle.loader.proofs.Cleared.{cleared-whole}
-use Rattle.depends.specs.inner.Search.{mention}
-use Rattle.depends.proofs.Mentions.{mentioned}
+use Rattle.loader.proofs.Cleared.{cleared-pad}
+use Rattle.depends.specs.inner.Search.{places-looked-at, shown-row}
+use Rattle.depends.proofs.Marking.{area, looked-at, answered}
 
 module _ (s : List ℕ) (z : Lengths) (i j : ℕ) where
   asked-refused : (r : Refusal) → loading s z start ≡ refused r → asking s z i j start ≡ refused r
@@ -67,21 +67,35 @@ module _ (s : List ℕ) (z : Lengths) (i j : ℕ) where
         by (done ds q) f h = absurd (let a : r ≡ Answer.Loaded (q .rows) (length ds) = ap (λ (o : Outcome). o .answer) h in let z : _≡_ {A = ℕ} 0 1 = cc in omega arith)
 
     module _ (rows count : ℕ) (e : r ≡ Answer.Loaded rows count) where
-      -- Both places are declarations.
-      pub ask-inside : ltb i count && ltb j count ≡ true → Asked (mention core declarations i j) surface core declarations work
+      -- The work area with the marks.
+      abbrev marks-left : List ℕ → List ℕ → List ℕ → List ℕ
+      marks-left c d w = places-looked-at c d j (i - j) j w
+
+      -- Both places are declarations: the work area is cleared again.
+      pub ask-inside : ltb i count && ltb j count ≡ true
+          → Asked (shown-row core declarations (marks-left core declarations work) i) surface core declarations (cleared (marks-left core declarations work) 0)
       unfolding load
       ask-inside t = by (loading s z start) refl l
         where
-          by : (o : Result (List Declaration)) → loading s z start ≡ o → leaving r surface core declarations work ≡ outcome s z o → Asked (mention core declarations i j) surface core declarations work
+          by : (o : Result (List Declaration)) → loading s z start ≡ o → leaving r surface core declarations work ≡ outcome s z o
+              → Asked (shown-row core declarations (marks-left core declarations work) i) surface core declarations (cleared (marks-left core declarations work) 0)
           by (refused y) f h = absurd (let a : r ≡ Answer.Refused y = ap (λ (o : Outcome). o .answer) h in let z : _≡_ {A = ℕ} 0 1 = cc in omega arith)
           by (done ds q) f h =
               let a : r ≡ Answer.Loaded (q .rows) (length ds) = ap (λ (o : Outcome). o .answer) h in
               let n : count ≡ length ds = cc in
               let u = subst (λ (n : ℕ). ltb i n && ltb j n ≡ true) n t in
-              let v : i < length ds = ltb-true i (length ds) (and-eq-true-iff (ltb i (length ds)) _ .0 u .0) in
-              let w = mentioned s z ds q f i j v in
-              promised (done ds q) (mention core declarations i j) (leaving r surface core declarations work) (asked-inside ds q f u)
-              (subst (λ (o : Outcome). Answers s i j (done ds q) (mention (o .tables .core) (o .tables .declarations) i j)) (sym h) w) h
+              let both = and-eq-true-iff (ltb i (length ds)) _ .0 u in
+              let hi : i < length ds = ltb-true i (length ds) (both .0) in
+              let hj : j < length ds = ltb-true j (length ds) (both .1) in
+              let room = places-fit s z ds q f in
+              let g : marks-left core declarations work ≡ area s z ds q f j (z .work) room i =
+              (λ k. marks-left (h k .tables .core) (h k .tables .declarations) (h k .tables .work)) ∙ looked-at s z ds q f j (z .work) room i hi hj in
+              let w = answered s z ds q f j (z .work) room i hi hj in
+              let c : cleared (marks-left core declarations work) 0 ≡ pad (z .work) [] =
+              cleared-pad (marks-left core declarations work) (z .work) _ g in
+              promised (done ds q) (shown-row core declarations (marks-left core declarations work) i) (leaving r surface core declarations (cleared (marks-left core declarations work) 0)) (asked-inside ds q f u)
+              (subst (Answers s i j (done ds q)) (sym (λ k. shown-row (h k .tables .core) (h k .tables .declarations) (g k) i)) w)
+              (λ k. leaving (a k) (h k .tables .surface) (h k .tables .core) (h k .tables .declarations) (c k))
 
       -- One of them is none: "12 dependence asked of a place that is no declaration, nowhere, after loading", and every table is cleared.
       pub ask-outside : ltb i count && ltb j count ≡ false → Asked (Dependence.Refused (nowhere 12)) (cleared surface 0) (cleared core 0) (cleared declarations 0) (cleared work 0)
@@ -94,11 +108,10 @@ module _ (s : List ℕ) (z : Lengths) (i j : ℕ) where
               let a : r ≡ Answer.Loaded (q .rows) (length ds) = ap (λ (o : Outcome). o .answer) h in
               let n : count ≡ length ds = cc in
               let u = subst (λ (n : ℕ). ltb i n && ltb j n ≡ false) n t in
-              let clears : (t : List ℕ) (n : ℕ) (x : List ℕ) → t ≡ pad n x → cleared t 0 ≡ pad n [] = λ t n x e. cleared-whole t ∙ ap (λ (m : ℕ). pad m []) (ap length e ∙ length-pad n x) in
-              let b = clears surface (z .surface) _ (ap (λ (o : Outcome). o .tables .surface) h) in
-              let c = clears core (z .core) _ (ap (λ (o : Outcome). o .tables .core) h) in
-              let d = clears declarations (z .declarations) _ (ap (λ (o : Outcome). o .tables .declarations) h) in
-              let g = clears work (z .work) _ (ap (λ (o : Outcome). o .tables .work) h) in
+              let b = cleared-pad surface (z .surface) _ (ap (λ (o : Outcome). o .tables .surface) h) in
+              let c = cleared-pad core (z .core) _ (ap (λ (o : Outcome). o .tables .core) h) in
+              let d = cleared-pad declarations (z .declarations) _ (ap (λ (o : Outcome). o .tables .declarations) h) in
+              let g = cleared-pad work (z .work) _ (ap (λ (o : Outcome). o .tables .work) h) in
               promised (refused (nowhere 12)) (Dependence.Refused (nowhere 12))
               (leaving (Answer.Refused (nowhere 12)) (cleared surface 0) (cleared core 0) (cleared declarations 0) (cleared work 0)) (asked-outside ds q f u) refl
               (λ k. leaving (Answer.Refused (nowhere 12)) (b k) (c k) (d k) (g k))

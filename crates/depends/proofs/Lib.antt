@@ -1,4 +1,3 @@
 pub mod Searching
-pub mod Ranges
-pub mod Mentions
+pub mod Marking
 pub mod Asking

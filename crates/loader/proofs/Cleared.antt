@@ -6,6 +6,7 @@ use native.Mathlib.Omega.{arith}
 use lib.ListN.{length, take, replicate}
 use lib.Seq.{length-take-le}
 use Rattle.terms.specs.Rows.{pad}
+use Rattle.terms.proofs.Tables.{length-pad}
 use Rattle.tables.specs.Tables.{cleared}
 
 pad-none : (n : ℕ) → pad n [] ≡ replicate n 0
@@ -28,3 +29,7 @@ cleared-behind t n ws h e =
 
 pub cleared-whole : (t : List ℕ) → cleared t 0 ≡ pad (length t) []
 cleared-whole t = cleared-behind t 0 [] (omega arith) refl
+
+-- Whatever stood in a table of n words.
+pub cleared-pad : (t : List ℕ) (n : ℕ) (x : List ℕ) → t ≡ pad n x → cleared t 0 ≡ pad n []
+cleared-pad t n x e = cleared-whole t ∙ ap (λ (m : ℕ). pad m []) (ap length e ∙ length-pad n x)

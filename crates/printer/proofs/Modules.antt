@@ -25,7 +25,7 @@ use Rattle.surface.proofs.Acceptance.{is-read, is-loaded}
 use Rattle.surface.proofs.Frames.{frames-of, deepest}
 use Rattle.surface.proofs.Shaped.{shaped}
 use Rattle.rows.specs.DeclarationRows.{row-behind, first-row}
-use Rattle.depends.proofs.Ranges.{last-in-record}
+use Rattle.dependence.proofs.Records.{last-in-record}
 use Rattle.printing.specs.Printing.{print-terms, print-declarations, text-head, print-module, spell, spelled-core, print-text}
 use Rattle.printing.specs.PrintCall.{text-of}
 use Rattle.printer.specs.inner.Machine.{machine, declaration-start, start-at, aside, step-row, step-declaration, down, whole}

@@ -2,6 +2,7 @@
 // records of the list: 01's input of the listing, which is loaded, read and asked about a dependence and about what binds its references,
 // whose core text is printed and read again; a source that is refused; and a core text that is not what would be printed for it.
 use binding::Binding;
+use dependence::Dependence;
 use libc::STDOUT_FILENO;
 use printing::Printed;
 use reader::ModuleRead;
@@ -9,7 +10,6 @@ use record_loader::Question;
 use record_loader::Reply;
 use records::Declaration;
 use surface::Answer;
-use surface::Dependence;
 use token::Place;
 use token::Refusal;
 ghost use mathlib.Core.Path.{_≡_};

@@ -12,7 +12,7 @@ use Rattle.surface.specs.declared.Answer.{Answer}
 use Rattle.surface.specs.Reader.{start, Result}
 use Rattle.surface.specs.Tables.{Lengths, Tables, tables, lengths, Left, leaves}
 use Rattle.surface.specs.Loading.{Outcome, outcome, parsing, loading, load}
-use Rattle.surface.specs.Dependence.{asking, ask, Answers}
+use Rattle.dependence.specs.Asks.{asking, ask, Answers}
 use Rattle.binding.specs.Binds as Binds
 use Rattle.loader.specs.Parsed.{parsed, parse}
 use Rattle.printing.specs.PrintCall.{PrintLeft, printing, print, print-leaves}

@@ -10,7 +10,7 @@ use borrow.Author.Tests.{ltb-true, ltb-false}
 use Rattle.terms.specs.Label.{Declaration}
 use Rattle.surface.specs.Reader.{Position, start, Result, done, refused, after, pure, require, nowhere}
 use Rattle.surface.specs.Loading.{Lengths, parsing, loading, outcome, load}
-use Rattle.surface.specs.Dependence.{asking}
+use Rattle.dependence.specs.Asks.{asking}
 use Rattle.surface.proofs.Steps.{after-elim, require-elim, done-inj}
 use Rattle.binding.specs.declared.Binding.{Binding}
 use Rattle.binding.specs.Binds.{left}

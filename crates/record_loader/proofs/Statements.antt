@@ -14,7 +14,8 @@ use Rattle.surface.specs.Reports.{report}
 use Rattle.surface.specs.Loading.{Outcome}
 use Rattle.surface.specs.SameCore.{declaration-count}
 use Rattle.surface.specs.Statements.{loading-reports}
-use Rattle.surface.proofs.Statements.{demand-3-in, row-offsets, load-reports, ask-reports}
+use Rattle.surface.proofs.Statements.{demand-3-in, row-offsets, load-reports}
+use Rattle.dependence.proofs.Statements.{ask-reports}
 use Rattle.loader.proofs.Statements.{parse-reports}
 use Rattle.printing.specs.PrintCall.{PrintLeft, report-printed}
 use Rattle.core_module.specs.CoreText.{reading-text, reading-canonical, text-outcome, read-core, read-canonical, ReadsCore, ReadsCanonical}

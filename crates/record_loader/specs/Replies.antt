@@ -6,11 +6,11 @@ use Prim.Native.Nat.{ℕ}
 use lib.ListN.{length, take}
 use Rattle.terms.specs.Rows.{pad}
 use Rattle.surface.specs.declared.Answer.{Answer}
-use Rattle.surface.specs.declared.Dependence.{Dependence}
 use Rattle.surface.specs.Reader.{nowhere}
 use Rattle.surface.specs.Tables.{Tables, tables}
 use Rattle.surface.specs.Loading.{Loads}
-use Rattle.surface.specs.Dependence.{Asks}
+use Rattle.dependence.specs.declared.Dependence.{Dependence}
+use Rattle.dependence.specs.Asks.{Asks}
 use Rattle.binding.specs.declared.Binding.{Binding}
 use Rattle.binding.specs.Binds.{AsksBinder}
 use Rattle.reader.specs.declared.ModuleRead.{ModuleRead}

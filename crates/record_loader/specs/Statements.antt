@@ -7,12 +7,13 @@ use lib.ListN.{length, take}
 use Rattle.surface.specs.declared.Answer.{Answer}
 use Rattle.surface.specs.Reader.{start}
 use Rattle.surface.specs.Tables.{Each, Tables, tables, lengths, in-words, leaves}
-use Rattle.surface.specs.Reports.{Report, report, report-dependence}
+use Rattle.surface.specs.Reports.{Report, report}
 use Rattle.surface.specs.Loading.{parsing, loading}
 use Rattle.surface.specs.SameCore.{row-count, declaration-count, SameCore, Accepts}
 use Rattle.surface.specs.Agreement.{Agreement}
-use Rattle.surface.specs.Dependence.{asking}
-use Rattle.surface.specs.Statements.{RowsBegin, loading-reports, AskingReports}
+use Rattle.dependence.specs.Asks.{asking, report-dependence}
+use Rattle.surface.specs.Statements.{RowsBegin, loading-reports}
+use Rattle.dependence.specs.Statements.{AskingReports}
 use Rattle.binding.specs.Binds.{report-binding}
 use Rattle.binding.specs.Statements.{BindingReports}
 use Rattle.loader.specs.Parsed.{report-read}

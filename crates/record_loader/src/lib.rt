@@ -1,11 +1,11 @@
 // Every question to a source or a core text with the declaration list lent as a slice of records: one entry point, proved by hand, over a
 // covered function that goes by the question. Each further question is a case more in it, and in specs/Replies.antt.
 use binding::Binding;
+use dependence::Dependence;
 use printing::Printed;
 use reader::ModuleRead;
 use records::Declaration;
 use surface::Answer;
-use surface::Dependence;
 ghost use Prim.Native.Nat.{_≤_};
 ghost use lib.ListN.{length};
 ghost use Rattle.surface.specs.Tables.{tables};

@@ -1,18 +1,19 @@
 // An answer as plain numbers, and how the library's functions tell them.
 use binding::Binding;
+use dependence::Dependence;
 use lister::Listed;
 use printing::Printed;
 use reader::ModuleRead;
 use same::Comparison;
 use surface::Answer;
-use surface::Dependence;
 use token::Lexed;
 use token::Place;
 use token::Refusal;
 use token::TokenKind;
 ghost use mathlib.Core.Path.{_≡_};
 ghost use mathlib.Core.List.{[], _∷_, _++_};
-ghost use Rattle.surface.specs.Reports.{offsets, report-refusal, report, report-dependence, token-number, report-token};
+ghost use Rattle.dependence.specs.Asks.{report-dependence};
+ghost use Rattle.surface.specs.Reports.{offsets, report-refusal, report, token-number, report-token};
 ghost use Rattle.loader.specs.Parsed.{report-read};
 ghost use Rattle.binding.specs.Binds.{report-binding};
 ghost use Rattle.printing.specs.PrintCall.{report-printed};

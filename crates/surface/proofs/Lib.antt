@@ -2,6 +2,7 @@ pub mod Starred
 pub mod Steps
 pub mod Takes
 pub mod Shaped
+pub mod TokenSizes
 pub mod Frames
 pub mod Sound
 pub mod SoundDeclarations

@@ -1,21 +1,17 @@
 -- The numbers and values of answers: by the promise of a call they are what the definitions give.
-use mathlib.Core.Path.{_≡_, refl, sym, ap, _∙_, subst}
-use mathlib.Core.Logic.{inl, inr}
+use mathlib.Core.Path.{_≡_, refl, sym, ap, _∙_}
 use mathlib.Core.List.{List, [], _∷_}
 use Prim.Native.Nat.{ℕ}
 use native.Mathlib.Omega.{arith}
 use lib.ListN.{length}
 use Rattle.token.specs.declared.Place.{Place}
-use Rattle.token.specs.declared.Refusal.{Refusal}
 use Rattle.terms.specs.Label.{Declaration}
 use Rattle.surface.specs.declared.Answer.{Answer}
-use Rattle.surface.specs.declared.Dependence.{Dependence}
 use Rattle.surface.specs.Reader.{start, Result, done, refused}
 use Rattle.surface.specs.Tables.{Lengths, lengths}
-use Rattle.surface.specs.Reports.{Report, offsets, report, report-dependence}
+use Rattle.surface.specs.Reports.{Report, offsets, report}
 use Rattle.surface.specs.Loading.{Outcome, outcome, loading, load}
-use Rattle.surface.specs.Dependence.{asking, Answers}
-use Rattle.surface.specs.Statements.{loading-reports, LoadReports, ReportTells, AskingReports, AskReports}
+use Rattle.surface.specs.Statements.{loading-reports, LoadReports, ReportTells}
 
 outcome-reports : (s : List ℕ) (z : Lengths) (o : Result (List Declaration)) → report (outcome s z o .answer) ≡ loading-reports o
 outcome-reports s z (refused r) = refl
@@ -47,14 +43,3 @@ report-tells (Answer.Refused r) (Answer.Refused q) e =
     let i : r .class ≡ q .class = ap (λ (r : Report). r .number) e in
     let j = same-place (r .place) (q .place) (ap (λ (r : Report). r .values) e) in
     λ k. Answer.Refused (record { class = i k; place = j k })
-
-asked-reports : (s : List ℕ) (i j : ℕ) (o : Result (List Declaration)) (a : Dependence) → Answers s i j o a → AskingReports s i j o (report-dependence a)
-asked-reports s i j (refused r) (Dependence.Refused q) h = λ k. report-dependence (Dependence.Refused (h k))
-asked-reports s i j (refused r) (Dependence.Yes k) h = absurd h
-asked-reports s i j (refused r) Dependence.No h = absurd h
-asked-reports s i j (done ds p) (Dependence.Refused q) h = absurd h
-asked-reports s i j (done ds p) (Dependence.Yes k) h = inl (k, refl, h)
-asked-reports s i j (done ds p) Dependence.No h = inr (refl, h)
-
-pub ask-reports : AskReports
-ask-reports s i j before a after h = asked-reports s i j (asking s (lengths before) i j start) a (h .0)

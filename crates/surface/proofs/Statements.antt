@@ -3,7 +3,7 @@ use mathlib.Core.List.{List}
 use native.Mathlib.Omega.{arith}
 use Rattle.terms.proofs.Widths.{total-surface}
 use Rattle.surface.specs.Card.{StarredReadings}
-use Rattle.surface.specs.Statements.{Sound, Complete, Unique, ReadsExactly, LoadsExactly, Demand1, Demand3, Demand3In, RowOffsets, LoadReports, ReportTells, AskReports}
+use Rattle.surface.specs.Statements.{Sound, Complete, Unique, ReadsExactly, LoadsExactly, Demand1, Demand3, Demand3In, RowOffsets, LoadReports, ReportTells}
 use Rattle.surface.specs.Tables.{in-words}
 use Rattle.surface.proofs.Starred as starred
 use Rattle.surface.proofs.SoundModule as reading-sound
@@ -53,6 +53,3 @@ load-reports = reports.load-reports
 
 pub report-tells : ReportTells
 report-tells = reports.report-tells
-
-pub ask-reports : AskReports
-ask-reports = reports.ask-reports

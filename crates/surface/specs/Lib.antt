@@ -7,6 +7,5 @@ pub mod Reports
 pub mod Loading
 pub mod SameCore
 pub mod Agreement
-pub mod Dependence
 pub mod Card
 pub mod Statements

@@ -1,5 +1,5 @@
 -- Document 01, "When an answer is an enum, a definition provides this paper's number and values for each of the enum's cases." Here those
--- of the answers of loading, of the dependence question and of the token function.
+-- of the answers of loading and of the token function.
 use mathlib.Core.List.{List, [], _∷_}
 use Prim.Native.Nat.{ℕ}
 use Rattle.token.specs.declared.Place.{Place}
@@ -8,7 +8,6 @@ use Rattle.token.specs.declared.Refusal.{Refusal}
 use Rattle.token.specs.declared.TokenKind.{TokenKind}
 use Rattle.token.specs.declared.Lexed as L
 use Rattle.surface.specs.declared.Answer as A
-use Rattle.surface.specs.declared.Dependence as D
 
 pub record Report : Type 0 where
   pub number : ℕ
@@ -30,12 +29,6 @@ report-refusal r = record { number = r .class; values = offsets (r .place) }
 abbrev pub report : A.Answer → Report
 report (A.Answer.Loaded rows declarations) = accepted (rows ∷ declarations ∷ [])
 report (A.Answer.Refused r) = report-refusal r
-
--- The dependence question: a yes has its row.
-abbrev pub report-dependence : D.Dependence → Report
-report-dependence (D.Dependence.Yes row) = accepted (row ∷ [])
-report-dependence D.Dependence.No = accepted []
-report-dependence (D.Dependence.Refused r) = report-refusal r
 
 -- The token function: a token's kind, in the order in which the Rust names them, its start and its end. A source has no strings.
 abbrev pub token-number : TokenKind → ℕ

@@ -1,7 +1,7 @@
 -- The headline statements, each as a type, with the definitions that only they use; surface/proofs/Statements.antt has a proof of each.
 -- The starred readings stand in Card.
 use mathlib.Core.Path.{_≡_}
-use mathlib.Core.Logic.{_↔_, _⊎_}
+use mathlib.Core.Logic.{_↔_}
 use mathlib.Core.List.{List, [], _∷_, map}
 use mathlib.Core.Option.{none}
 use mathlib.Core.Bool.{false}
@@ -11,21 +11,18 @@ use Rattle.token.specs.declared.Refusal.{Refusal}
 use Rattle.utf8.specs.Utf8.{byte-order-mark, WellFormed}
 use Rattle.terms.specs.Tree.{Forest, nil, node}
 use Rattle.terms.specs.Label.{Label, Declaration, trees}
-use Rattle.terms.specs.Resolution.{first-refused, resolve-module}
+use Rattle.terms.specs.Resolution.{first-refused}
 use Rattle.terms.specs.Rows.{surface-rows, first-rows}
-use Rattle.terms.specs.Dependence.{Shows, Depends}
 use Rattle.terms.specs.Offsets.{eighth-word, offsets-of, ModuleBegins}
 use Rattle.surface.specs.declared.Answer.{Answer}
-use Rattle.surface.specs.declared.Dependence.{Dependence}
 use Rattle.surface.specs.Grammar.{Derives}
 use Rattle.surface.specs.Reader.{Position, start, Result, done, refused}
 use Rattle.surface.specs.Reading.{read-module}
 use Rattle.surface.specs.Tables.{Each, Lengths, Tables, lengths, blank, in-words, leaves}
-use Rattle.surface.specs.Reports.{Report, accepted, report-refusal, report, report-dependence}
+use Rattle.surface.specs.Reports.{Report, accepted, report-refusal, report}
 use Rattle.surface.specs.Loading.{reading, loading, Outcome, Loads}
 use Rattle.surface.specs.SameCore.{row-count, SameCore, Accepts}
 use Rattle.surface.specs.Agreement.{Agreement}
-use Rattle.surface.specs.Dependence.{asking, Asks}
 
 -- How many frames are open at once while terms are read: a term with arguments is a frame until they are read.
 abbrev pub opens : Forest Label → ℕ → ℕ
@@ -135,14 +132,3 @@ LoadReports =
 -- No two answers of loading have the same number and values, so that these say all of the answer.
 abbrev pub ReportTells : Type 0
 ReportTells = (a b : Answer) → report a ≡ report b → a ≡ b
-
--- The same of a call of `depends`: 0 and a row that shows it, 0 and no value if there is none, or the refusal.
-abbrev pub AskingReports : List ℕ → ℕ → ℕ → Result (List Declaration) → Report → Type 0
-AskingReports s i j (refused r) n = n ≡ report-refusal r
-AskingReports s i j (done ds p) n =
-    ((k : ℕ) × (n ≡ accepted (k ∷ [])) × Shows (resolve-module s [] ds) i j k) ⊎ ((n ≡ accepted []) × (Depends (resolve-module s [] ds) i j → ⊥))
-
-abbrev pub AskReports : Type 0
-AskReports =
-    (s : List ℕ) (i j : ℕ) (before : Tables) (a : Dependence) (after : Tables) → Asks s i j before a after
-    → AskingReports s i j (asking s (lengths before) i j start) (report-dependence a)

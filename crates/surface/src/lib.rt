@@ -6,10 +6,3 @@ pub enum Answer {
     Loaded { rows: usize, declarations: usize },
     Refused(Refusal),
 }
-
-// The answer of the dependence question: a row that shows it, none, or the refusal.
-pub enum Dependence {
-    Yes { row: usize },
-    No,
-    Refused(Refusal),
-}

@@ -14,7 +14,6 @@ pub mod FirstRefused
 pub mod Tables
 pub mod RowFields
 pub mod Widths
-pub mod Depends
 pub mod Lookup
 pub mod Offsets
 pub mod Entries

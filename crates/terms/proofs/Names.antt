@@ -3,8 +3,9 @@ use mathlib.Core.Path.{_≡_, refl, sym, ap, _∙_}
 use mathlib.Core.List.{List, [], _∷_}
 use mathlib.Core.Option.{Option, none, some}
 use mathlib.Core.Bool.{Bool, true, false}
-use Prim.Native.Nat.{ℕ, zero, suc}
+use Prim.Native.Nat.{ℕ, zero, suc, _<_}
 use native.Mathlib.Omega.{arith}
+use lib.ListN.{length}
 use Rattle.words.specs.Words.{same-bytes}
 use Rattle.words.proofs.Names.{eq-same, same-eq, same-ne, ne-same}
 use Rattle.terms.specs.Label.{Name}
@@ -56,3 +57,14 @@ find-inj x y (z ∷ l) i p q = go (λ i. find-inj x y l i) (same? x z) (same? y 
     go ih (no a) (yes b) i p q = absurd (not-first (find x l) (cc (find-yes y z l b, find-no x z l a)))
     go ih (no a) (no b) zero p q = absurd (not-first (find x l) (sym (find-no x z l a) ∙ p))
     go ih (no a) (no b) (suc i) p q = ih i (one-less (find x l) i (sym (find-no x z l a) ∙ p)) (one-less (find y l) i (sym (find-no y z l b) ∙ q))
+
+-- What is found in a list stands in it.
+pub find-below : (x : Name) (l : List Name) (i : ℕ) → find x l ≡ some i → i < length l
+unfolding find
+find-below x [] i e = none-some e
+find-below x (y ∷ l) i e = go (find-below x l) (same? x y) (find x l) refl
+  where
+    go : ((i : ℕ) → find x l ≡ some i → i < length l) → Dec (x ≡ y) → (o : Option ℕ) → find x l ≡ o → i < suc (length l)
+    go ih (yes h) o f = let z = some-inj (sym (find-yes x y l h) ∙ e) in omega arith
+    go ih (no h) none f = none-some (sym (ap next-number f) ∙ sym (find-no x y l h) ∙ e)
+    go ih (no h) (some j) f = let z : suc j ≡ i = some-inj (sym (ap next-number f) ∙ sym (find-no x y l h) ∙ e) in omega (arith, ih j f)

@@ -6,7 +6,6 @@ pub mod Resolution
 pub mod Rows
 pub mod Content
 pub mod Agreement
-pub mod Dependence
 pub mod Offsets
 pub mod RowAt
 pub mod Lookup

@@ -1,9 +1,9 @@
 -- `depends::depends` meets its contract.
 use mathlib.Core.Path.{sym, _∙_, subst}
 use Rattle.token.specs.declared.Refusal.{Refusal}
-use Rattle.surface.specs.declared.Dependence.{Dependence}
 use Rattle.surface.specs.Reader.{start}
-use Rattle.surface.specs.Dependence.{asking, ask, Answers}
+use Rattle.dependence.specs.declared.Dependence.{Dependence}
+use Rattle.dependence.specs.Asks.{asking, ask, Answers}
 use Rattle.loader.specs.Leaving.{lengths-of, leaving}
 use Rattle.depends.proofs.Asking.{ask-refused, ask-inside, ask-outside}
 use borrow.Author.Needs.{needs}
@@ -25,8 +25,8 @@ enum-known-loaded-2 c = search needs
 are-places-requires : tie.Need-are-places-requires
 are-places-requires c κs = search needs
 
-find-mention-requires : tie.Need-find-mention-requires
-find-mention-requires c κs = search needs
+find-dependence-requires : tie.Need-find-dependence-requires
+find-dependence-requires c κs = search needs
 
 same-length : tie.Need-same-length
 same-length c = search needs
@@ -42,11 +42,15 @@ same-length-4 c = search needs
 
 returns : tie.Need-returns
 returns c =
-    let a = c .before .before .before .before .before .before .before .before .before .before .before .before .before .before .before .before .before .before .before .before .before .before .before .before .before .before .args in
-    let k = c .before .before .before .before .before .before .before .before .before .before .before .before .before .before .before .before .load in
-    let m = c .before .before .before .before .before .before .loaded2 .given in
-    let w = ask-inside (a .s .now) (lengths-of (a .surface .now) (a .core .now) (a .declarations .now) (a .work .now)) (a .i) (a .j) (k .result) (k .last .1 .0) (k .last .1 .1 .0) (k .last .1 .1 .1 .0) (k .last .1 .1 .1 .1 .0) (k .ensures) (m .0 .0) (m .0 .1 .0) (m .1) (sym (c .before .before .before .before .are-places .ensures) ∙ search needs) in
-    (subst (Answers (a .s .now) (a .i) (a .j) (asking (a .s .now) (lengths-of (a .surface .now) (a .core .now) (a .declarations .now) (a .work .now)) (a .i) (a .j) start)) (sym (c .find-mention .ensures)) (w .answers), w .leaves)
+    let a = c .before .before .before .before .before .before .before .before .before .before .before .before .before .before .before .before .before .before .before .before .before .before .before .before .before .before .before .before .before .args in
+    let k = c .before .before .before .before .before .before .before .before .before .before .before .before .before .before .before .before .before .before .before .load in
+    let m = c .before .before .before .before .before .before .before .before .before .loaded2 .given in
+    let f = c .before .before .find-dependence .ensures in
+    let z = lengths-of (a .surface .now) (a .core .now) (a .declarations .now) (a .work .now) in
+    let w = ask-inside (a .s .now) z (a .i) (a .j) (k .result) (k .last .1 .0) (k .last .1 .1 .0) (k .last .1 .1 .1 .0) (k .last .1 .1 .1 .1 .0) (k .ensures) (m .0 .0) (m .0 .1 .0) (m .1) (sym (c .before .before .before .before .before .before .before .are-places .ensures) ∙ search needs) in (
+      subst (Answers (a .s .now) (a .i) (a .j) (asking (a .s .now) z (a .i) (a .j) start)) (sym (f .0)) (w .answers),
+      (λ x. leaving (ask (a .s .now) z (a .i) (a .j) .answer) (k .last .1 .0) (k .last .1 .1 .0) (k .last .1 .1 .1 .0) (f .1 x)) ∙ w .leaves,
+    )
 
 clear-all-requires : tie.Need-clear-all-requires
 clear-all-requires c κs = search needs
@@ -106,7 +110,7 @@ depends-spec =
     refused-by-loading-requires
     enum-known-loaded-2
     are-places-requires
-    find-mention-requires
+    find-dependence-requires
     same-length
     same-length-2
     same-length-3

@@ -1,22 +1,48 @@
--- How the rows of a declaration are searched in a core table and a declaration list.
-use mathlib.Core.Bool.{Bool, true, false, _&&_}
+-- How places are marked in a work area, and rows that name a marked place searched, in a core table and a declaration list.
+use mathlib.Core.Bool.{Bool, true, false, _&&_, _||_, cond}
 use mathlib.Core.List.{List}
 use Prim.Native.Nat.{ℕ, zero, suc, _+_, _-_, _*_}
-use lib.Dec.{eqb}
-use lib.ListN.{getD}
+use lib.Dec.{eqb, ltb}
+use lib.ListN.{getD, set}
 use Rattle.rows.specs.DeclarationRows.{row-behind, first-row}
-use Rattle.surface.specs.declared.Dependence.{Dependence}
-use Rattle.surface.specs.declared.Dependence.the-variants.{Yes, No}
+use Rattle.dependence.specs.Deciding.{marked}
+use Rattle.dependence.specs.declared.Dependence.{Dependence}
+use Rattle.dependence.specs.declared.Dependence.the-variants.{Yes, No}
 
--- Whether row k of a core table is "a global row j".
-unfoldable pub global-at : List ℕ → ℕ → ℕ → Bool
-global-at core j k = eqb (getD core (k * 8) 0) 2 && eqb (getD core (k * 8 + 1) 0) j
+-- Whether row k of a core table is a global row that names a marked place.
+unfoldable pub names-marked : List ℕ → List ℕ → ℕ → Bool
+names-marked core work k = eqb (getD core (k * 8) 0) 2 && marked work (getD core (k * 8 + 1) 0)
 
--- The first of n rows from row k on that is one.
-unfoldable pub first-global : List ℕ → ℕ → ℕ → ℕ → Dependence
-first-global core j zero k = No
-first-global core j (suc n) k = elim (global-at core j k) [ true ↦ Yes k | false ↦ first-global core j n (k + 1) ]
+-- The first of n rows from row k on that is one, or the row behind them.
+unfoldable pub first-marked : List ℕ → List ℕ → ℕ → ℕ → ℕ
+first-marked core work zero k = k
+first-marked core work (suc n) k = elim (names-marked core work k) [ true ↦ k | false ↦ first-marked core work n (k + 1) ]
+
+-- The row behind those of declaration k that count further on.
+unfoldable pub counted-behind : List ℕ → ℕ → ℕ
+counted-behind declarations k =
+    cond (eqb (getD declarations (k * 5) 0) 2) (row-behind declarations k) (getD declarations (k * 5 + 3) 0 + 1)
+
+-- Whether place k shows j, by the marks of the places below it.
+unfoldable pub shows-place : List ℕ → List ℕ → List ℕ → ℕ → ℕ → Bool
+shows-place core declarations work k j =
+    eqb k j
+    || ltb (first-marked core work (counted-behind declarations k - first-row declarations k) (first-row declarations k)) (counted-behind declarations k)
+
+-- The work area after place k, and after n places from k on.
+unfoldable pub place-looked-at : List ℕ → List ℕ → ℕ → ℕ → List ℕ → List ℕ
+place-looked-at core declarations j k work = cond (shows-place core declarations work k j) (set work k 1) work
+
+unfoldable pub places-looked-at : List ℕ → List ℕ → ℕ → ℕ → ℕ → List ℕ → List ℕ
+places-looked-at core declarations j zero k work = work
+places-looked-at core declarations j (suc n) k work = places-looked-at core declarations j n (k + 1) (place-looked-at core declarations j k work)
+
+-- A row below `to`, or none.
+abbrev pub row-or-none : ℕ → ℕ → Dependence
+row-or-none to r = elim (ltb r to) [ true ↦ Yes r | false ↦ No ]
 
 -- A row among those of declaration i.
-unfoldable pub mention : List ℕ → List ℕ → ℕ → ℕ → Dependence
-mention core declarations i j = first-global core j (row-behind declarations i - first-row declarations i) (first-row declarations i)
+unfoldable pub shown-row : List ℕ → List ℕ → List ℕ → ℕ → Dependence
+shown-row core declarations work i =
+    row-or-none (row-behind declarations i)
+    (first-marked core work (row-behind declarations i - first-row declarations i) (first-row declarations i))

@@ -1,6 +1,6 @@
 -- `reports::report_dependence` meets its contract.
 use mathlib.Core.Path.{sym, ap, _∙_}
-use Rattle.surface.specs.Reports.{report-dependence}
+use Rattle.dependence.specs.Asks.{report-dependence}
 use Rattle.reports.specs.Numbers.{numbers}
 use borrow.Author.Needs.{needs}
 use Rattle.reports.proofs.report_dependence.Statement.{statement}

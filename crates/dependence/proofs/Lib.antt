@@ -1,0 +1,10 @@
+pub mod Numbered
+pub mod Naming
+pub mod Counted
+pub mod Earlier
+pub mod Marking
+pub mod Deciding
+pub mod Ranges
+pub mod Records
+pub mod Few
+pub mod Statements

@@ -1,0 +1,4 @@
+pub mod Depends
+pub mod Asks
+pub mod Deciding
+pub mod Statements
