@@ -44,9 +44,9 @@
 
 /* The version of this header and of the library beside it. */
 #define SULYTEROM_VERSION_MAJOR 0
-#define SULYTEROM_VERSION_MINOR 4
+#define SULYTEROM_VERSION_MINOR 5
 #define SULYTEROM_VERSION_PATCH 0
-#define SULYTEROM_VERSION_TEXT "0.4.0"
+#define SULYTEROM_VERSION_TEXT "0.5.0"
 
 #ifdef __cplusplus
 extern "C" {
@@ -253,14 +253,18 @@ uint8_t sulyterom_list(const uint8_t *source, size_t source_length, uint32_t *su
 uint8_t sulyterom_token(const uint8_t *source, size_t source_length, size_t at, uint64_t *answer,
                         size_t answer_length);
 
-/* Asks whether the declaration at place i depends on the one at place j: whether a row of i's type or body is global j.
-   The source is loaded first.
+/* Asks whether the declaration at place i depends on the one at place j: whether some global row in i's type or body
+   names a place that shows j. Place k shows j if k is j, or if a global row in k's type, or in k's body where k is
+   transparent, names a place that shows j. So i's own body counts whatever its kind, and an opaque body of a
+   declaration on the way from i to j does not, since it is not unfolded. A global row names an earlier place, so i
+   depends on earlier places only. The source is loaded first.
 
-   Yes: returns 0 and leaves in answer 1, such a row's number, 0. No: returns 0 and leaves 0, 0, 0. After both the
-   tables hold what loading leaves.
+   Yes: returns 0 and leaves in answer 1, the number of a row of i that names a place that shows j, 0; which of them
+   is left open, and the place need not be j. No: returns 0 and leaves 0, 0, 0. After both the tables hold what
+   loading leaves.
 
-   Refused, by loading or since i or j is not the place of a declaration: returns the class, with the answer and the
-   tables as sulyterom_load leaves them. */
+   Refused, by loading or, after it, since i or j is not the place of a declaration (12, without a place): returns the
+   class, with the answer and the tables as sulyterom_load leaves them. */
 uint8_t sulyterom_depends(const uint8_t *source, size_t source_length, size_t i, size_t j, uint32_t *surface,
                           size_t surface_length, uint32_t *core, size_t core_length, uint32_t *declarations,
                           size_t declarations_length, uint32_t *work, size_t work_length, uint64_t *answer,
@@ -403,7 +407,7 @@ typedef struct sulyterom_dependence {
     int has_offset;
     size_t offset;
     int yes;    /* whether i depends on j */
-    size_t row; /* that shows it, if so */
+    size_t row; /* of i, a global row that names a place that shows j, if so */
 } sulyterom_dependence;
 
 /* What sulyterom_binder_in answers. */
