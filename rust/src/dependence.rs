@@ -6,7 +6,8 @@ use crate::{Loaded, Refusal, Tables};
 #[derive(Clone, Copy, Debug)]
 #[must_use]
 pub struct Dependence<'a> {
-    /// A row that shows the dependence, for a yes.
+    /// For a yes, a global row in `i`'s type or body that names a place that shows `j`. The place need not be `j`, and which
+    /// of several such rows it is is left open.
     pub row: Option<usize>,
     /// What was loaded.
     pub loaded: Loaded<'a>,

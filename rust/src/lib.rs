@@ -152,8 +152,13 @@ fn room(source: &[u8]) -> usize {
     source.len().min(LONGEST_SOURCE) * 4 + 64
 }
 
-/// Asks whether the declaration at place `i` depends on the one at place `j`: whether a row of `i`'s type or body is a
-/// global `j`.
+/// Asks whether the declaration at place `i` depends on the one at place `j`: whether some global row in `i`'s type or body
+/// names a place that shows `j`.
+///
+/// Place k shows `j` if k is `j`, or if a global row in k's type, or in k's body where k is transparent, names a place that
+/// shows `j`. So `i`'s own body counts whatever its kind, and an opaque body of a declaration on the way from `i` to `j` does
+/// not, since it is not unfolded. A global row names an earlier place, so `i` depends on earlier places only.
+/// [`Loader::dependents`] lists all that depend on one.
 ///
 /// The source is loaded first, and a yes or a no leaves the tables as [`load`] does: the answer shows both.
 ///
@@ -165,12 +170,14 @@ fn room(source: &[u8]) -> usize {
 /// ```
 /// use sulyterom::{Class, Tables, depends};
 ///
-/// let source = b"(surface 0 1)(module m)(postulate x nat)(postulate y (pi x (ref x) (ref x)))";
+/// let source = b"(surface 0 1)(module m)(postulate x nat)(opaque y nat (ref x))(transparent z nat (ref y))";
 /// let mut tables = Tables::for_bytes(source.len());
-/// assert_eq!(depends(source, 1, 0, &mut tables)?.row, Some(1));
-/// let no = depends(source, 0, 1, &mut tables)?;
-/// assert_eq!((no.row, no.loaded.declaration_count()), (None, 2));
-/// assert_eq!(depends(source, 0, 2, &mut tables).unwrap_err().class, Class::NoDeclaration);
+/// assert_eq!(depends(source, 1, 0, &mut tables)?.row, Some(2));
+/// // row 4 names y, whose body is opaque: it shows y, and not x
+/// assert_eq!(depends(source, 2, 1, &mut tables)?.row, Some(4));
+/// let no = depends(source, 2, 0, &mut tables)?;
+/// assert_eq!((no.row, no.loaded.declaration_count()), (None, 3));
+/// assert_eq!(depends(source, 0, 3, &mut tables).unwrap_err().class, Class::NoDeclaration);
 /// # Ok::<(), sulyterom::Refusal>(())
 /// ```
 pub fn depends<'a, W>(

@@ -69,6 +69,37 @@ impl Loader {
         Dependence::told(source, tables, told)
     }
 
+    /// The places of all declarations that depend on the one at place `j`, ascending: those that may have to be looked at
+    /// again when it is withdrawn.
+    ///
+    /// Each place behind `j` is asked of as [`depends`](crate::depends) does, and the source is loaded for each.
+    ///
+    /// ```
+    /// # use sulyterom::Loader;
+    /// // z depends on x through the type of y; w names only z, whose body is opaque
+    /// let source = b"(surface 0 1)(module m)(postulate x (universe 0))(postulate y (ref x))\
+    ///     (opaque z nat (ref y))(postulate w (ref z))";
+    /// assert_eq!(Loader::new().dependents(source, 0)?, [1, 2]);
+    /// assert_eq!(Loader::new().dependents(source, 2)?, [3]);
+    /// assert!(Loader::new().dependents(source, 3)?.is_empty());
+    /// # Ok::<(), sulyterom::Refusal>(())
+    /// ```
+    ///
+    /// # Errors
+    ///
+    /// A [`Refusal`] of class 1 to 7, or 12 if `j` is not the place of a declaration.
+    pub fn dependents(&mut self, source: &[u8], j: usize) -> Result<Vec<usize>, Refusal> {
+        // no declaration depends on itself: this one is asked for its refusal
+        let count = self.depends(source, j, j)?.loaded.declaration_count();
+        let mut places = Vec::new();
+        for i in j + 1..count {
+            if self.depends(source, i, j)?.row.is_some() {
+                places.push(i);
+            }
+        }
+        Ok(places)
+    }
+
     /// Asks what binds the reference at a row, as [`binder`](crate::binder) does.
     ///
     /// ```

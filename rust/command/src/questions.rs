@@ -178,11 +178,37 @@ pub fn depends(file: &OsStr, i: Declaration<'_>, j: Declaration<'_>) -> Result<A
     Ok(match shown {
         Ok(Some(row)) => Answer::new(Status::Yes, format!("yes {row}\n")),
         Ok(None) => Answer::new(Status::No, "no\n"),
-        Err(refusal) if refusal.class == Class::NoDeclaration => {
-            Answer::refused(refusal_line(refusal), sentence::no_declaration(&source, [i, j]))
-        }
-        Err(refusal) => refused(&source, refusal, Storage::Large),
+        Err(refusal) => refused_of(&source, refusal, &[i, j]),
     })
+}
+
+/// An empty list is an answer like others.
+pub fn dependents(file: &OsStr, j: Declaration<'_>) -> Result<Answer, NotAsked> {
+    let source = Source::read(file)?;
+    let mut loader = Loader::new();
+    let places = j.place(&source, &mut loader).and_then(|j| loader.dependents(&source.bytes, j));
+    Ok(match places.and_then(|places| Ok(place_lines(&places, loader.load(&source.bytes)?))) {
+        Ok(text) => Answer::new(Status::Yes, text),
+        Err(refusal) => refused_of(&source, refusal, &[j]),
+    })
+}
+
+/// A line for each place: itself, and the name of the declaration there.
+fn place_lines(places: &[usize], loaded: Loaded<'_>) -> String {
+    let mut text = String::new();
+    for place in places {
+        let name = loaded.declaration(*place).expect("a dependent's place is a declaration's").name;
+        let _ = writeln!(text, "{place} {name}");
+    }
+    text
+}
+
+/// A refusal of a question about declarations: with 12, one of them is none.
+fn refused_of(source: &Source, refusal: Refusal, asked: &[Declaration<'_>]) -> Answer {
+    match refusal.class {
+        Class::NoDeclaration => Answer::refused(refusal_line(refusal), sentence::no_declaration(source, asked)),
+        _ => refused(source, refusal, Storage::Large),
+    }
 }
 
 pub fn same(one: &OsStr, other: &OsStr) -> Result<Answer, NotAsked> {

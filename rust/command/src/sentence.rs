@@ -201,8 +201,8 @@ pub fn no_reference(source: &Source, row: usize) -> String {
     placed(source, (loaded.offset(row), why))
 }
 
-/// Which of the two is no declaration.
-pub fn no_declaration(source: &Source, asked: [Declaration<'_>; 2]) -> String {
+/// Which of those asked of is no declaration.
+pub fn no_declaration(source: &Source, asked: &[Declaration<'_>]) -> String {
     let mut loader = Loader::new();
     let Ok(loaded) = loader.load(&source.bytes) else { return format!("{}: {}", source.name, Class::NoDeclaration) };
     let count = loaded.declaration_count();

@@ -17,6 +17,7 @@ pub enum Question<'a> {
     Rows(&'a OsStr),
     References(&'a OsStr),
     Depends(&'a OsStr, Declaration<'a>, Declaration<'a>),
+    Dependents(&'a OsStr, Declaration<'a>),
     Binder(&'a OsStr, usize),
     Same(&'a OsStr, &'a OsStr),
     Tokens(&'a OsStr),
@@ -46,6 +47,7 @@ pub fn parsed(words: &[OsString]) -> Result<Question<'_>, NotAsked> {
         ("same", [one, other]) => Ok(Question::Same(one, other)),
         ("binder", [file, row]) => Ok(Question::Binder(file, questions::row(row)?)),
         ("depends", [file, i, j]) => Ok(Question::Depends(file, Declaration::named(i)?, Declaration::named(j)?)),
+        ("dependents", [file, j]) => Ok(Question::Dependents(file, Declaration::named(j)?)),
         (known, _) => Err(misused(known, word)),
     }
 }
@@ -70,6 +72,7 @@ impl Question<'_> {
             Self::Rows(file) => questions::rows(file),
             Self::References(file) => questions::references(file),
             Self::Depends(file, i, j) => questions::depends(file, i, j),
+            Self::Dependents(file, j) => questions::dependents(file, j),
             Self::Binder(file, row) => questions::binder(file, row),
             Self::Same(one, other) => questions::same(one, other),
             Self::Tokens(file) => questions::tokens(file),
