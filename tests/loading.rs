@@ -9,9 +9,11 @@ mod loading {
     pub mod binder;
     pub mod bindings;
     pub mod card;
+    pub mod chained;
     pub mod check;
     pub mod compare;
     pub mod dependence;
+    pub mod dependences;
     pub mod edges;
     pub mod expected;
     pub mod generated;

@@ -143,22 +143,37 @@ pub const LOADING: [&str; 87] = [
     "unused-values-left",
 ];
 
-/// Of the dependence question.
-pub const DEPENDENCE: [&str; 14] = [
+/// Of the dependence question: the rows of the declaration that is asked of, what shows a place, the row that is shown, the
+/// places, the tables.
+pub const DEPENDENCE: [&str; 24] = [
     "body-not-looked-at",
     "opaque-body-not-looked-at",
     "type-not-looked-at",
     "row-of-the-next-declaration",
+    // on the way
+    "direct-mention-only",
+    "one-step-only",
+    "itself-not-shown",
+    "opaque-bodies-on-the-way-count",
+    "transparent-bodies-on-the-way-left-out",
+    "types-on-the-way-left-out",
+    "opaque-types-not-followed",
+    "postulate-types-not-followed",
+    "places-over-255-not-followed",
+    // the row that is shown
     "row-of-any-declaration",
-    "through-another",
+    "row-that-shows-another",
+    // the places that are asked of
     "places-swapped",
     "places-of-32-bits",
     "later-place-is-none",
     "only-the-first-place-tested",
     "own-place-is-a-yes",
+    // what is left in the tables
     "twelve-before-loading",
     "tables-left-after-twelve",
     "yes-clears-the-tables",
+    "marks-left-in-the-work-area",
 ];
 
 /// Of the question for a reference's binder: the form, the declaration, the row that is asked of, the answer, the tables.

@@ -57,6 +57,11 @@ impl<'a> Reference<'a> {
         reference
     }
 
+    /// The words of a source that the Rust accepts; none where it has more open forms than document 01 lets.
+    pub fn accepted(&self) -> Option<&Content> {
+        self.resolved.as_ref().ok()
+    }
+
     /// How many rows and declarations are wanted before reading ends, however it ends.
     pub fn need(&self) -> Limits {
         let counts = |reading: &Reading| Limits { rows: reading.rows.len(), declarations: reading.opened };

@@ -51,6 +51,9 @@ pub fn depends(source: &[u8], places: [usize; 2], mut lent: Tables<&mut [u32]>, 
         _ => outcome.map(|_| ()),
     };
     leave(&mut lent, &module, left);
+    if outcome.is_ok() && is("marks-left-in-the-work-area") {
+        lent.work[places[1]] = 1;
+    }
     report(outcome.map(|row| row.into_iter().collect()), answer)
 }
 
