@@ -33,21 +33,23 @@ static void *load(void *unused) {
     return unused;
 }
 
+/* The last row that is a reference, if there is one, and the last declaration. */
+static size_t asked, last;
+
+static void choose(void) {
+    sulyterom_loaded loaded = sulyterom_load_into((const uint8_t *)source, length, &tables[0]);
+    asked = 0;
+    for (size_t row = 0; row < loaded.rows; row++) {
+        if (surface[0][row].kind == SULYTEROM_REF) asked = row;
+    }
+    last = loaded.declarations > 0 ? loaded.declarations - 1 : 0;
+}
+
+/* Of all that stand between the two. */
 static void *depends(void *unused) {
-    sulyterom_depends_in((const uint8_t *)source, length, 1, 0, &tables[0]);
+    sulyterom_depends_in((const uint8_t *)source, length, last, 0, &tables[0]);
     return unused;
 }
-
-/* The last row that is a reference, if there is one. */
-static size_t reference(void) {
-    size_t row = sulyterom_load_into((const uint8_t *)source, length, &tables[0]).rows;
-    while (row-- > 0) {
-        if (surface[0][row].kind == SULYTEROM_REF) return row;
-    }
-    return 0;
-}
-
-static size_t asked;
 
 static void *binder(void *unused) {
     sulyterom_binder_in((const uint8_t *)source, length, asked, &tables[0]);
@@ -103,7 +105,7 @@ static void check(const char *what, void *(*call)(void *)) {
 
 static void all(const char *what) {
     printf("%s, %zu bytes\n", what, length);
-    asked = reference();
+    choose();
     check("loading", load);
     check("a dependence", depends);
     check("a binder", binder);

@@ -239,6 +239,31 @@ static void refuses_to_bind(const char *what, const char *source, size_t row, le
     check(what, told && hold(lent, nothing, nothing, nothing));
 }
 
+/* Three declarations, of which the last names the second, and that the first where ONE stands. */
+#define CHAIN(one) HEAD "(postulate a nat)" one "(postulate c (ref b))"
+
+static void depended(void) {
+    check("y depends on x, by row 1", depends(input, 1, 0, whole) == 0 && answers(1, 1, 0));
+    check("a yes leaves what loading leaves", hold(whole, surface_rows, core_rows, records));
+    check("x does not depend on y", depends(input, 0, 1, whole) == 0 && answers(0, 0, 0));
+    check("a no leaves what loading leaves", hold(whole, surface_rows, core_rows, records));
+    check("nor does y on itself", depends(input, 1, 1, whole) == 0 && answers(0, 0, 0));
+    check("no third declaration: 12", depends(input, 2, 0, whole) == SULYTEROM_NO_DECLARATION && answers(0, 0, 0));
+    check("12 leaves 0", hold(whole, nothing, nothing, nothing));
+    check("nor as the second place: 12", depends(input, 0, 2, whole) == SULYTEROM_NO_DECLARATION);
+    check("nor at the last number: 12", depends(input, SIZE_MAX, SIZE_MAX, whole) == SULYTEROM_NO_DECLARATION);
+    check("loading comes first: 1 at 1", depends("(", 2, 2, whole) == SULYTEROM_MALFORMED && answers(1, 1, 0));
+    check("a refused load leaves 0", hold(whole, nothing, nothing, nothing));
+
+    check("through a postulate's type", depends(CHAIN("(postulate b (ref a))"), 2, 0, whole) == 0 && answers(1, 2, 0));
+    check("the work area is 0", holds(work, WORK, WORK, nothing));
+    check("through a transparent body", depends(CHAIN("(transparent b nat (ref a))"), 2, 0, whole) == 0 && answers(1, 3, 0));
+    check("through an opaque one's type", depends(CHAIN("(opaque b (ref a) nat)"), 2, 0, whole) == 0 && answers(1, 3, 0));
+    check("not through an opaque body", depends(CHAIN("(opaque b nat (ref a))"), 2, 0, whole) == 0 && answers(0, 0, 0));
+    check("the work area is 0 after a no", holds(work, WORK, WORK, nothing));
+    check("by its own opaque body", depends(CHAIN("(opaque b nat (ref a))"), 1, 0, whole) == 0 && answers(1, 2, 0));
+}
+
 static void binds(void) {
     check("the domain's x is the declaration", binder(input, 1, whole) == 0 && answers(1, 0, 0));
     check("a declaration leaves what loading leaves", hold(whole, surface_rows, core_rows, records));
@@ -341,18 +366,7 @@ int main(void) {
     lent.work = WORK - 1;
     refuses("a short work area: 11", input, lent, SULYTEROM_WORK_SHORT, -1);
 
-    check("y depends on x, by row 1", depends(input, 1, 0, whole) == 0 && answers(1, 1, 0));
-    check("a yes leaves what loading leaves", hold(whole, surface_rows, core_rows, records));
-    check("x does not depend on y", depends(input, 0, 1, whole) == 0 && answers(0, 0, 0));
-    check("a no leaves what loading leaves", hold(whole, surface_rows, core_rows, records));
-    check("nor does y on itself", depends(input, 1, 1, whole) == 0 && answers(0, 0, 0));
-    check("no third declaration: 12", depends(input, 2, 0, whole) == SULYTEROM_NO_DECLARATION && answers(0, 0, 0));
-    check("12 leaves 0", hold(whole, nothing, nothing, nothing));
-    check("nor as the second place: 12", depends(input, 0, 2, whole) == SULYTEROM_NO_DECLARATION);
-    check("nor at the last number: 12", depends(input, SIZE_MAX, SIZE_MAX, whole) == SULYTEROM_NO_DECLARATION);
-    check("loading comes first: 1 at 1", depends("(", 2, 2, whole) == SULYTEROM_MALFORMED && answers(1, 1, 0));
-    check("a refused load leaves 0", hold(whole, nothing, nothing, nothing));
-
+    depended();
     binds();
 
     check("the same as itself", same(input, input) == 0 && answers(0, 0, 0));

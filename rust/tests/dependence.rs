@@ -1,45 +1,91 @@
 //! Which declaration depends on which, the row that shows it, and what the question leaves.
-use sulyterom::{Class, Loader, Refusal, Row, Tables, depends, load};
+use sulyterom::{Class, DeclarationKind, Loader, Refusal, Row, Tables, depends, load};
 
-/// b is mentioned in a type, c in a body, and the b bound in e is no declaration.
+/// b and c are named in types, c in a body; d is reached by its own body, and e through the type of d alone, since the body
+/// of d is opaque. The b bound in f is no declaration.
 const SOURCE: &[u8] = b"\
 (surface 0 1)(module m)
 (postulate a (universe 0))
 (postulate b (pi x (ref a) (ref a)))
-(transparent c (ref b) (lam a (ref a)))
-(opaque d nat (app (ref c) (pair (ref a) zero)))
-(postulate e (pi b nat (ref b)))
+(transparent c nat (app (ref b) zero))
+(opaque d (ref b) (app (ref c) (pair (ref a) zero)))
+(transparent e nat (ref d))
+(postulate f (pi b nat (ref b)))
+(opaque g nat (ref c))
+(postulate h (ref g))
 ";
 
 /// The places that each declaration depends on.
-const DEPENDS: [&[usize]; 5] = [&[], &[0], &[1], &[0, 2], &[]];
+const DEPENDS: [&[usize]; 8] = [&[], &[0], &[0, 1], &[0, 1, 2], &[0, 1, 3], &[], &[0, 1, 2], &[6]];
+const COUNT: usize = DEPENDS.len();
 
 #[test]
 fn every_pair() {
     let mut asked = Tables::for_bytes(SOURCE.len());
     let mut tables = Tables::for_bytes(SOURCE.len());
     let loaded = load(SOURCE, &mut tables).unwrap();
+    // what k shows: itself, and what it depends on, but for what only an opaque body names
+    let shows = |k: usize, j: usize| {
+        let opaque = loaded.declaration(k).unwrap().kind == DeclarationKind::Opaque;
+        let by_its_type: &[usize] = if k == 3 { &[0, 1] } else { &[] };
+        k == j || if opaque { by_its_type } else { DEPENDS[k] }.contains(&j)
+    };
     for (i, on) in DEPENDS.iter().enumerate() {
         let last = |place: usize| loaded.declaration(place).map(|it| it.body.unwrap_or(it.ty)).unwrap();
         let own = if i == 0 { 0..=last(0) } else { last(i - 1) + 1..=last(i) };
-        for j in 0..5 {
+        for j in 0..COUNT {
             let row = depends(SOURCE, i, j, &mut asked).unwrap().row;
             assert_eq!(row.is_some(), on.contains(&j), "{i} on {j}");
             if let Some(row) = row {
                 assert!(own.contains(&row), "row {row} for {i} on {j}");
-                assert_eq!(loaded.row(row), Some(Row::Global { place: j }));
+                let Some(Row::Global { place }) = loaded.row(row) else { panic!("row {row} for {i} on {j}") };
+                assert!(shows(place, j), "row {row}, which names {place}, for {i} on {j}");
             }
         }
     }
 }
 
 #[test]
+fn dependents_are_those_with_a_yes() {
+    let mut loader = Loader::new();
+    for j in 0..COUNT {
+        let expected: Vec<usize> = (0..COUNT).filter(|i| DEPENDS[*i].contains(&j)).collect();
+        assert_eq!(loader.dependents(SOURCE, j), Ok(expected), "of {j}");
+    }
+}
+
+#[test]
+fn dependents_of_no_declaration_and_of_no_module() {
+    let refused = Refusal { class: Class::NoDeclaration, offset: None };
+    for j in [COUNT, 1 << 32, usize::MAX] {
+        assert_eq!(Loader::new().dependents(SOURCE, j), Err(refused), "of {j}");
+    }
+    assert_eq!(Loader::new().dependents(b"(surface 0 1)(module m)", 0), Err(refused));
+    let malformed = Refusal { class: Class::Malformed, offset: Some(1) };
+    assert_eq!(Loader::new().dependents(b"(", 0), Err(malformed));
+    assert_eq!(Loader::new().dependents(b"(", usize::MAX), Err(malformed));
+}
+
+#[test]
+fn dependents_of_a_source_that_needs_the_most() {
+    // the least bytes for a declaration, so that more records are needed than is likely
+    let names = (b'A'..=b'Z').map(char::from);
+    let declarations: String = names.map(|name| format!("(postulate {name} nat)")).collect();
+    let source = format!("(surface 0 1)(module m){declarations}(postulate a (ref A))(opaque b (ref a) (ref Z))");
+    let mut loader = Loader::new();
+    assert_eq!(loader.dependents(source.as_bytes(), 0), Ok(vec![26, 27]));
+    assert_eq!(loader.dependents(source.as_bytes(), 25), Ok(vec![27]));
+    assert_eq!(loader.dependents(source.as_bytes(), 27), Ok(vec![]));
+}
+
+#[test]
 fn a_yes_and_a_no_leave_what_loading_leaves() {
-    let mut tables = Tables::with_sizes(30, 7);
+    let mut tables = Tables::with_sizes(40, 10);
     load(SOURCE, &mut tables).unwrap();
-    for j in [0, 4] {
-        let mut asked = Tables::from_words(vec![7; 240], vec![7; 240], vec![7; 35], vec![7; 16_384]);
-        assert_eq!(depends(SOURCE, 1, j, &mut asked).unwrap().row.is_some(), j == 0);
+    // itself, through another, and not
+    for (j, yes) in [(2, true), (0, true), (6, false)] {
+        let mut asked = Tables::from_words(vec![7; 320], vec![7; 320], vec![7; 50], vec![7; 16_384]);
+        assert_eq!(depends(SOURCE, 3, j, &mut asked).unwrap().row.is_some(), yes);
         assert_eq!(asked, tables);
     }
 }
@@ -62,10 +108,10 @@ fn an_answer_shows_what_was_loaded() {
 #[test]
 fn places_without_a_declaration() {
     let refused = Refusal { class: Class::NoDeclaration, offset: None };
-    for (i, j) in [(5, 0), (0, 5), (5, 5), (usize::MAX, 0), (0, usize::MAX)] {
-        let mut tables = Tables::with_sizes(30, 7);
+    for (i, j) in [(COUNT, 0), (0, COUNT), (COUNT, COUNT), (usize::MAX, 0), (0, usize::MAX)] {
+        let mut tables = Tables::with_sizes(40, 10);
         assert_eq!(depends(SOURCE, i, j, &mut tables).unwrap_err(), refused, "{i} on {j}");
-        assert_eq!(tables, Tables::with_sizes(30, 7));
+        assert_eq!(tables, Tables::with_sizes(40, 10));
     }
     let nothing = b"(surface 0 1)(module m)";
     assert_eq!(depends(nothing, 0, 0, &mut Tables::with_sizes(0, 0)).unwrap_err(), refused);
@@ -73,8 +119,8 @@ fn places_without_a_declaration() {
 
 #[test]
 fn loading_comes_first() {
-    let mut tables = Tables::with_sizes(2, 7);
+    let mut tables = Tables::with_sizes(2, 10);
     assert_eq!(depends(b"(", 9, 9, &mut tables).unwrap_err().to_string(), "refused 1 at 1: malformed source");
     assert_eq!(depends(SOURCE, 9, 9, &mut tables).unwrap_err().class, Class::SurfaceFull);
-    assert_eq!(tables, Tables::with_sizes(2, 7));
+    assert_eq!(tables, Tables::with_sizes(2, 10));
 }

@@ -18,9 +18,9 @@ const MIXTURES: [&[Kind]; 6] = [
 const IN_TYPES: [usize; 8] = [0, 0, 0, 0, 1, 1, 1, 2];
 const IN_BODIES: [usize; 8] = [0, 1, 1, 1, 1, 1, 2, 3];
 
-/// A module of few declarations; one of 24 has tens.
+/// A module of few declarations; one of eight has tens.
 pub fn chained(prng: &mut Prng) -> Module {
-    let count = match prng.below(96) {
+    let count = match prng.below(32) {
         0 => prng.between(40, 60),
         1..=3 => prng.between(20, 32),
         _ => prng.between(2, 12),
