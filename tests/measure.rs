@@ -1,7 +1,9 @@
 //! Reading alone and loading, measured against the Rust: `measure [--quick] [KIND..]` prints the tables of
-//! docs/PERFORMANCE.md, for some kinds or all; with `--count` it only works, for a counter of instructions.
+//! docs/PERFORMANCE.md, for some kinds or all; with `--count` it only works, for a counter of instructions. `dependence` in the
+//! place of a kind is the table of the dependence question, which is printed where no kind is named too.
 mod measuring {
     pub mod case;
+    pub mod chain;
     pub mod clock;
     pub mod count;
     pub mod goals;
@@ -11,9 +13,10 @@ mod measuring {
     pub mod sources;
     pub mod work;
 }
-use measuring::{case, clock, count, goals, kinds, report, row, sources, work};
+use measuring::{case, chain, clock, count, goals, kinds, report, row, sources, work};
 
 use case::{Case, cases};
+use chain::{Chain, Measured, chains};
 use kinds::{KINDS, Kind, SIZES, kind_of};
 use row::Row;
 
@@ -28,13 +31,23 @@ fn main() {
     let named: Vec<&str> = words.iter().map(String::as_str).filter(|word| !word.starts_with("--")).collect();
     let kinds = chosen(&named, has("--quick"));
     let cases: Vec<Case> = kinds.iter().flat_map(|kind| cases(kind, sizes)).collect();
+    let chains = if named.is_empty() || has(chain::WORD) { chains() } else { Vec::new() };
     if has(count::WORD) {
-        return count::turns(&cases);
+        return count::turns(&cases, &chains);
     }
-    let mut counts = count::counts(&words, &cases).map(Vec::into_iter);
-    let row = |case| Row { case, counts: counts.as_mut().and_then(Iterator::next), seconds: clock::seconds(case) };
-    let rows: Vec<Row> = cases.iter().map(row).collect();
-    report::print(&kinds, &rows);
+    let (of_cases, of_chains) = count::counts(&words, &cases, &chains).unzip();
+    let rows: Vec<Row> = measured(&cases, of_cases, |case, counts| Row { case, counts, seconds: clock::seconds(case) });
+    let asked = measured(&chains, of_chains, |chain: &Chain, counts| {
+        let seconds = clock::chain_seconds(chain);
+        Measured { chain, counts, seconds }
+    });
+    report::print(&kinds, &rows, &asked);
+}
+
+/// What is measured of each, with its instructions where these were counted.
+fn measured<'a, T, C, M>(all: &'a [T], counts: Option<Vec<C>>, of: impl Fn(&'a T, Option<C>) -> M) -> Vec<M> {
+    let mut counts = counts.map(Vec::into_iter);
+    all.iter().map(|one| of(one, counts.as_mut().and_then(Iterator::next))).collect()
 }
 
 /// The kinds that are named, or the quick ones, or all.
@@ -42,7 +55,7 @@ fn chosen(named: &[&str], quick: bool) -> Vec<&'static Kind> {
     let names: Vec<&str> = match (named, quick) {
         ([], true) => QUICK.to_vec(),
         ([], false) => KINDS.iter().map(|kind| kind.name).collect(),
-        _ => named.to_vec(),
+        _ => named.iter().copied().filter(|name| *name != chain::WORD).collect(),
     };
     names.iter().map(|name| kind_of(name).unwrap_or_else(|| panic!("no kind {name}"))).collect()
 }

@@ -1,5 +1,6 @@
 //! Seconds by the clock.
 use crate::case::Case;
+use crate::chain::{self, Chain, Turns};
 use crate::work::{Work, whos};
 use std::time::{Duration, Instant};
 
@@ -11,19 +12,32 @@ const TURNS: usize = 3;
 
 /// The quickest turn of each who has the task.
 pub fn seconds(case: &Case) -> Vec<f64> {
-    let mut work = Work::new(case);
-    let mut quickest = vec![f64::INFINITY; whos(case.task).len()];
+    let (mut work, whos) = (Work::new(case), whos(case.task));
+    let mut quickest = vec![f64::INFINITY; whos.len()];
+    time(&mut quickest, |at| work.turn(whos[at]));
+    quickest
+}
+
+/// The quickest turn of loading a chain and of asking about it.
+pub fn chain_seconds(chain: &Chain) -> [f64; chain::TASKS] {
+    let mut turns = Turns::new(chain);
+    let mut quickest = [f64::INFINITY; chain::TASKS];
+    time(&mut quickest, |task| turns.turn(task));
+    quickest
+}
+
+/// Finds the quickest turn of each of several.
+fn time(quickest: &mut [f64], mut turn: impl FnMut(usize)) {
     let start = Instant::now();
     let mut rounds = 0;
     while rounds < ROUNDS || start.elapsed() < TIME {
-        for (who, best) in whos(case.task).iter().zip(&mut quickest) {
+        for (at, best) in quickest.iter_mut().enumerate() {
             for _ in 0..TURNS {
                 let from = Instant::now();
-                work.turn(*who);
+                turn(at);
                 *best = best.min(from.elapsed().as_secs_f64());
             }
         }
         rounds += 1;
     }
-    quickest
 }

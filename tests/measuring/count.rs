@@ -1,5 +1,6 @@
 //! Instructions, counted by valgrind's callgrind: one run for all cases, which writes down each turn by itself.
 use crate::case::Case;
+use crate::chain::{self, Chain, Turns};
 use crate::work::{Who, Work, whos};
 use std::process::Command;
 
@@ -15,35 +16,51 @@ fn turns_of(who: Who) -> usize {
     if who == Who::Rust { 5 } else { 3 }
 }
 
+/// Of a chain's.
+const CHAIN_TURNS: usize = 3;
+
 /// A turn that callgrind knows by its name.
 #[unsafe(no_mangle)]
 #[inline(never)]
-pub fn counted_turn(work: &mut Work, who: Who) {
-    work.turn(who);
+pub fn counted_turn(turn: &mut dyn FnMut()) {
+    turn();
 }
 
-/// The run that is counted: turns of each case, behind one that is not counted.
-pub fn turns(cases: &[Case]) {
+/// The run that is counted: turns of each case and chain, behind one that is not counted.
+pub fn turns(cases: &[Case], chains: &[Chain]) {
     for case in cases {
         let mut work = Work::new(case);
         for who in whos(case.task) {
             work.turn(*who);
-            (0..turns_of(*who)).for_each(|_| counted_turn(&mut work, *who));
+            (0..turns_of(*who)).for_each(|_| counted_turn(&mut || work.turn(*who)));
+        }
+    }
+    for chain in chains {
+        let mut turns = Turns::new(chain);
+        for task in 0..chain::TASKS {
+            turns.turn(task);
+            (0..CHAIN_TURNS).for_each(|_| counted_turn(&mut || turns.turn(task)));
         }
     }
 }
 
-/// The instructions of each case by each who has the task, in order; none without valgrind.
-pub fn counts(words: &[String], cases: &[Case]) -> Option<Vec<Vec<u64>>> {
+/// The instructions of each case by each who has the task.
+type OfCases = Vec<Vec<u64>>;
+type OfChains = Vec<[u64; chain::TASKS]>;
+
+/// The instructions of the cases and of the chains, in order; none without valgrind.
+pub fn counts(words: &[String], cases: &[Case], chains: &[Chain]) -> Option<(OfCases, OfChains)> {
     let mut totals = totals(words)?.into_iter();
-    let mut middle = |who: &Who| {
-        let mut turns: Vec<u64> = totals.by_ref().take(turns_of(*who)).collect();
+    let mut middle = |number: usize| {
+        let mut turns: Vec<u64> = totals.by_ref().take(number).collect();
         turns.sort_unstable();
         turns[turns.len() / 2]
     };
-    let counts = cases.iter().map(|case| whos(case.task).iter().map(&mut middle).collect()).collect();
-    assert_eq!(totals.count(), 0, "turns of no case");
-    Some(counts)
+    let mut of_case = |case: &Case| whos(case.task).iter().map(|who| middle(turns_of(*who))).collect();
+    let of_cases = cases.iter().map(&mut of_case).collect();
+    let of_chains = chains.iter().map(|_| [(); chain::TASKS].map(|()| middle(CHAIN_TURNS))).collect();
+    assert_eq!(totals.count(), 0, "turns of nothing");
+    Some((of_cases, of_chains))
 }
 
 /// The instructions of every turn.

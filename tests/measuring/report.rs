@@ -1,17 +1,23 @@
 //! The tables of docs/PERFORMANCE.md.
 use crate::case::{OUTCOMES, Outcome, TASKS, Task};
+use crate::chain::{self, Measured};
 use crate::goals;
 use crate::kinds::Kind;
 use crate::row::{Row, compared, head, line, number, ratio, titles};
 use crate::work::whos;
 
-pub fn print(kinds: &[&'static Kind], rows: &[Row]) {
-    println!("### The kinds\n\n| kind | what it is |\n|---|---|");
-    kinds.iter().for_each(|kind| println!("| {} | {} |", kind.name, kind.about));
-    println!("\n### The goal, kind by kind");
-    TASKS.iter().for_each(|task| goals::print(*task, kinds, rows));
-    for task in TASKS {
-        OUTCOMES.iter().for_each(|outcome| print_all(task, *outcome, rows));
+pub fn print(kinds: &[&'static Kind], rows: &[Row], asked: &[Measured]) {
+    if !kinds.is_empty() {
+        println!("### The kinds\n\n| kind | what it is |\n|---|---|");
+        kinds.iter().for_each(|kind| println!("| {} | {} |", kind.name, kind.about));
+        println!("\n### The goal, kind by kind");
+        TASKS.iter().for_each(|task| goals::print(*task, kinds, rows));
+    }
+    if !asked.is_empty() {
+        chain::print(asked);
+    }
+    if !kinds.is_empty() {
+        TASKS.iter().for_each(|task| OUTCOMES.iter().for_each(|outcome| print_all(*task, *outcome, rows)));
     }
 }
 

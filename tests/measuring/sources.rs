@@ -1,4 +1,5 @@
 //! How the sources are put together; each kind has its function in a file below.
+pub mod chained;
 pub mod declared;
 pub mod forms;
 pub mod layout;

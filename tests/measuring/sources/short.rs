@@ -11,11 +11,16 @@ pub fn short(size: usize) -> String {
 }
 
 pub fn densest(size: usize) -> String {
-    let mut names = (0..).map(shortest_name).filter(|name| !RESERVED.contains(&name.as_str()));
+    let mut names = shortest_names();
     filled(size, |_, _| format!("(postulate {} nat)", names.next().expect("there is no last name")))
 }
 
-/// The names in the order of their lengths.
+/// The names that are no reserved words, in the order of their lengths.
+pub fn shortest_names() -> impl Iterator<Item = String> {
+    (0..).map(shortest_name).filter(|name| !RESERVED.contains(&name.as_str()))
+}
+
+/// All names in the order of their lengths, reserved words too.
 fn shortest_name(mut number: usize) -> String {
     const LETTERS: &[u8; 63] = b"_ABCDEFGHIJKLMNOPQRSTUVWXYZabcdefghijklmnopqrstuvwxyz0123456789";
     const FIRST: usize = 53;
