@@ -2,18 +2,20 @@
 use mathlib.Core.Path.{refl, sym, subst}
 use mathlib.Core.Logic.{inl, inr}
 use mathlib.Core.List.{List}
-use Prim.Native.Nat.{ℕ}
+use Prim.Native.Nat.{ℕ, suc}
+use native.Mathlib.Omega.{arith}
 use Rattle.terms.specs.Label.{Declaration}
 use Rattle.terms.specs.Resolution.{CoreDeclaration}
 use Rattle.surface.specs.Tables.{lengths}
 use Rattle.surface.specs.Reader.{start, Result, done, refused}
 use Rattle.dependence.specs.declared.Dependence.{Dependence}
 use Rattle.dependence.specs.Depends.{itself}
+use Rattle.dependence.specs.Deciding.{decides-place}
 use Rattle.dependence.specs.Asks.{asking, Answers, report-dependence}
-use Rattle.dependence.specs.Statements.{Accepted, NamesEarlier, ShowsUpwards, DependsOnEarlier, Decided, MentionQualifies, AskingReports, AskReports}
+use Rattle.dependence.specs.Statements.{Accepted, NamesEarlier, ShowsUpwards, DependsOnEarlier, PlaceDecided, Decided, MentionQualifies, AskingReports, AskReports}
 use Rattle.dependence.proofs.Counted.{either-own}
 use Rattle.dependence.proofs.Earlier.{Earlier, loaded-earlier}
-use Rattle.dependence.proofs.Marking.{shows-upwards}
+use Rattle.dependence.proofs.Marking as marking
 use Rattle.dependence.proofs.Deciding as deciding
 
 accepted-earlier : (m : List CoreDeclaration) → Accepted m → Earlier m
@@ -22,11 +24,15 @@ accepted-earlier m a = subst Earlier (sym (a .5)) (loaded-earlier (a .0) (a .1) 
 pub names-earlier : NamesEarlier
 names-earlier m a i p r h = accepted-earlier m a i p r (either-own m i p r h)
 
-pub shows-up : ShowsUpwards
-shows-up m a j k h = shows-upwards m j (accepted-earlier m a) k h
+pub shows-upwards : ShowsUpwards
+shows-upwards m a j k h = marking.shows-upwards m j (accepted-earlier m a) k h
 
 pub depends-on-earlier : DependsOnEarlier
 depends-on-earlier m a i j h = deciding.depends-earlier m (accepted-earlier m a) i j h
+
+pub place-decided : PlaceDecided
+unfolding decides-place
+place-decided m a j k = (marking.marked-shows m j (suc k) k (omega arith), λ h. marking.shows-marked m j (accepted-earlier m a) k h (suc k) (omega arith))
 
 pub decided : Decided
 decided m a i j = deciding.decided m (accepted-earlier m a) i j

@@ -1,4 +1,4 @@
--- Dependence as a function, one pass over the places: that it decides the relation of Depends is proved, so nobody has to believe it.
+-- Dependence as a function, one pass over the places: that it decides the relations of Depends is proved, so nobody has to believe it.
 use mathlib.Core.Bool.{Bool, true, false, _&&_, _||_, cond}
 use mathlib.Core.List.{List, [], _∷_, _++_}
 use mathlib.Core.Option.{Option, none, some}
@@ -41,9 +41,14 @@ unfoldable pub marks : List CoreDeclaration → ℕ → ℕ → List ℕ
 marks m j zero = []
 marks m j (suc n) = marks m j n ++ (mark m j (marks m j n) n ∷ [])
 
+-- Whether place k shows j.
+unfoldable pub decides-place : List CoreDeclaration → ℕ → ℕ → Bool
+decides-place m j k = marked (marks m j (suc k)) k
+
 -- The first row of i that names a marked place: i's rows name places below i only.
 unfoldable pub first-showing : List CoreDeclaration → ℕ → ℕ → Option ℕ
 first-showing m i j = first-naming (marked (marks m j i)) (own-rows m i)
 
+-- Whether declaration i depends on j.
 unfoldable pub decides : List CoreDeclaration → ℕ → ℕ → Bool
 decides m i j = is-found (first-showing m i j)

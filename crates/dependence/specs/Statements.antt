@@ -12,7 +12,7 @@ use Rattle.surface.specs.Reports.{Report, accepted, report-refusal}
 use Rattle.surface.specs.Loading.{loading}
 use Rattle.dependence.specs.declared.Dependence.{Dependence}
 use Rattle.dependence.specs.Depends.{type-rows, body-rows, Among, Shows, Qualifies, Depends}
-use Rattle.dependence.specs.Deciding.{decides}
+use Rattle.dependence.specs.Deciding.{decides-place, decides}
 use Rattle.dependence.specs.Asks.{asking, Asks, report-dependence}
 
 -- A core module is one that loading leaves, of some source with some tables.
@@ -30,7 +30,10 @@ ShowsUpwards = (m : List CoreDeclaration) → Accepted m → (j k : ℕ) → Sho
 abbrev pub DependsOnEarlier : Type 0
 DependsOnEarlier = (m : List CoreDeclaration) → Accepted m → (i j : ℕ) → Depends m i j → j < i
 
--- One pass over the places decides dependence.
+-- One pass over the places decides which of them show j, and what depends on it.
+abbrev pub PlaceDecided : Type 0
+PlaceDecided = (m : List CoreDeclaration) → Accepted m → (j k : ℕ) → (decides-place m j k ≡ true) ↔ Shows m j k
+
 abbrev pub Decided : Type 0
 Decided = (m : List CoreDeclaration) → Accepted m → (i j : ℕ) → (decides m i j ≡ true) ↔ Depends m i j
 

@@ -2,7 +2,7 @@
 use mathlib.Core.Path.{_≡_, refl, sym, ap, _∙_, subst}
 use mathlib.Core.Bool.{Bool, true, false, _&&_, and-eq-true-iff}
 use mathlib.Core.List.{List, []}
-use Prim.Native.Nat.{ℕ, _-_, _<_}
+use Prim.Native.Nat.{ℕ, _<_}
 use native.Mathlib.Omega.{arith}
 use lib.Dec.{ltb}
 use borrow.Author.Tests.{ltb-true}
@@ -19,7 +19,7 @@ use Rattle.dependence.specs.Asks.{asking, ask, Answers}
 use Rattle.dependence.proofs.Few.{places-fit}
 use Rattle.loader.specs.Leaving.{leaving}
 use Rattle.loader.proofs.Cleared.{cleared-pad}
-use Rattle.depends.specs.inner.Search.{places-looked-at, shown-row}
+use Rattle.depends.specs.inner.Search.{marks-left, shown-row}
 use Rattle.depends.proofs.Marking.{area, looked-at, answered}
 
 module _ (s : List ℕ) (z : Lengths) (i j : ℕ) where
@@ -67,18 +67,14 @@ module _ (s : List ℕ) (z : Lengths) (i j : ℕ) where
         by (done ds q) f h = absurd (let a : r ≡ Answer.Loaded (q .rows) (length ds) = ap (λ (o : Outcome). o .answer) h in let z : _≡_ {A = ℕ} 0 1 = cc in omega arith)
 
     module _ (rows count : ℕ) (e : r ≡ Answer.Loaded rows count) where
-      -- The work area with the marks.
-      abbrev marks-left : List ℕ → List ℕ → List ℕ → List ℕ
-      marks-left c d w = places-looked-at c d j (i - j) j w
-
       -- Both places are declarations: the work area is cleared again.
       pub ask-inside : ltb i count && ltb j count ≡ true
-          → Asked (shown-row core declarations (marks-left core declarations work) i) surface core declarations (cleared (marks-left core declarations work) 0)
+          → Asked (shown-row core declarations (marks-left core declarations j i work) i) surface core declarations (cleared (marks-left core declarations j i work) 0)
       unfolding load
       ask-inside t = by (loading s z start) refl l
         where
           by : (o : Result (List Declaration)) → loading s z start ≡ o → leaving r surface core declarations work ≡ outcome s z o
-              → Asked (shown-row core declarations (marks-left core declarations work) i) surface core declarations (cleared (marks-left core declarations work) 0)
+              → Asked (shown-row core declarations (marks-left core declarations j i work) i) surface core declarations (cleared (marks-left core declarations j i work) 0)
           by (refused y) f h = absurd (let a : r ≡ Answer.Refused y = ap (λ (o : Outcome). o .answer) h in let z : _≡_ {A = ℕ} 0 1 = cc in omega arith)
           by (done ds q) f h =
               let a : r ≡ Answer.Loaded (q .rows) (length ds) = ap (λ (o : Outcome). o .answer) h in
@@ -88,12 +84,12 @@ module _ (s : List ℕ) (z : Lengths) (i j : ℕ) where
               let hi : i < length ds = ltb-true i (length ds) (both .0) in
               let hj : j < length ds = ltb-true j (length ds) (both .1) in
               let room = places-fit s z ds q f in
-              let g : marks-left core declarations work ≡ area s z ds q f j (z .work) room i =
-              (λ k. marks-left (h k .tables .core) (h k .tables .declarations) (h k .tables .work)) ∙ looked-at s z ds q f j (z .work) room i hi hj in
+              let g : marks-left core declarations j i work ≡ area s z ds q f j (z .work) room i =
+              (λ k. marks-left (h k .tables .core) (h k .tables .declarations) j i (h k .tables .work)) ∙ looked-at s z ds q f j (z .work) room i hi hj in
               let w = answered s z ds q f j (z .work) room i hi hj in
-              let c : cleared (marks-left core declarations work) 0 ≡ pad (z .work) [] =
-              cleared-pad (marks-left core declarations work) (z .work) _ g in
-              promised (done ds q) (shown-row core declarations (marks-left core declarations work) i) (leaving r surface core declarations (cleared (marks-left core declarations work) 0)) (asked-inside ds q f u)
+              let c : cleared (marks-left core declarations j i work) 0 ≡ pad (z .work) [] =
+              cleared-pad (marks-left core declarations j i work) (z .work) _ g in
+              promised (done ds q) (shown-row core declarations (marks-left core declarations j i work) i) (leaving r surface core declarations (cleared (marks-left core declarations j i work) 0)) (asked-inside ds q f u)
               (subst (Answers s i j (done ds q)) (sym (λ k. shown-row (h k .tables .core) (h k .tables .declarations) (g k) i)) w)
               (λ k. leaving (a k) (h k .tables .surface) (h k .tables .core) (h k .tables .declarations) (c k))
 

@@ -28,7 +28,7 @@ use Rattle.dependence.proofs.Earlier.{Earlier, loaded-earlier}
 use Rattle.dependence.proofs.Marking.{length-marks, marks-store, marks-before}
 use Rattle.dependence.proofs.Deciding.{Shown, first-shown}
 use Rattle.depends.specs.inner.Search as inner
-use Rattle.depends.specs.inner.Search.{names-marked, first-marked, shows-place, place-looked-at, places-looked-at, shown-row}
+use Rattle.depends.specs.inner.Search.{names-marked, first-marked, shows-place, place-looked-at, places-looked-at, marks-left, shown-row}
 
 -- Word j of row k in a table that has room for all rows.
 pub word-of-row : (w n : ℕ) (l : List (List ℕ)) → Wide w l → length l * w ≤ n → (k j : ℕ) → k < length l → j < w → k * w + j < n → getD (pad n (joined l)) (k * w + j) 0 ≡ getD (getD l k []) j 0
@@ -176,11 +176,11 @@ module _ (s : List ℕ) (z : Lengths) (ds : List Declaration) (q : Position) (e 
 
     module _ (i : ℕ) (hi : i < length ds) (hj : j < length ds) where
       -- From an empty work area on, the places from j up to i leave the marks of the first i.
-      pub looked-at : places-looked-at core records j (i - j) j (pad w []) ≡ area i
+      pub looked-at : marks-left core records j i (pad w []) ≡ area i
       unfolding places-looked-at
       looked-at = go (ltb i j) refl
         where
-          go : (b : Bool) → ltb i j ≡ b → places-looked-at core records j (i - j) j (pad w []) ≡ area i
+          go : (b : Bool) → ltb i j ≡ b → marks-left core records j i (pad w []) ≡ area i
           go true g =
               let n : i - j ≡ 0 = omega (arith, ltb-true i j g) in
               ap (λ (n : ℕ). places-looked-at core records j n j (pad w [])) n ∙ sym (marks-before m j earlier w i (omega (arith, ltb-true i j g)) (omega arith))

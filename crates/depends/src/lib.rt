@@ -12,13 +12,12 @@ use token::Refusal;
 ghost use mathlib.Core.Path.{_≡_};
 ghost use mathlib.Core.Bool.{_&&_};
 ghost use lib.Dec.{ltb};
-ghost use lib.ListN.{set};
 ghost use Prim.Native.Nat.{_-_};
 ghost use Rattle.dependence.specs.declared.Dependence as Dependence;
 ghost use Rattle.dependence.specs.Asks.{Asks};
 ghost use Rattle.surface.specs.Tables.{tables};
 ghost use Rattle.tables.specs.Tables.{cleared};
-ghost use Rattle.depends.specs.inner.Search.{names-marked, first-marked, counted-behind, shows-place, place-looked-at, places-looked-at, shown-row};
+ghost use Rattle.depends.specs.inner.Search.{names-marked, first-marked, counted-behind, shows-place, place-looked-at, marks-left, shown-row};
 
 // Whether row k is a global row that names a marked place. Behind the table there is none.
 fn names_marked(core: &[u32], work: &[u32], k: usize) -> bool
@@ -88,7 +87,7 @@ fn look_at_place(core: &[u32], declarations: &[u32], work: &mut [u32], k: usize,
 
 // The places from j up to place `to`: a place shows only what is not behind it.
 fn look_at_places(core: &[u32], declarations: &[u32], work: &mut [u32], j: usize, to: usize)
-    ensures { λ r. ⌜ now (work .exit) ≡ places-looked-at (now (core .entry)) (now (declarations .entry)) j (to - j) j (now (work .entry)) ⌝ }
+    ensures { λ r. ⌜ now (work .exit) ≡ marks-left (now (core .entry)) (now (declarations .entry)) j to (now (work .entry)) ⌝ }
 {
     let mut k = j;
     while k < to {
@@ -118,8 +117,10 @@ fn find_dependence(
     i: usize,
     j: usize,
 ) -> Dependence
-    ensures { λ r. ⌜ r ≡ shown-row (now (core .entry)) (now (declarations .entry)) (places-looked-at (now (core .entry)) (now (declarations .entry)) j (i - j) j (now (work .entry))) i ⌝ }
-    ensures { λ r. ⌜ now (work .exit) ≡ cleared (places-looked-at (now (core .entry)) (now (declarations .entry)) j (i - j) j (now (work .entry))) 0 ⌝ }
+    ensures { λ r. ⌜
+        r ≡ shown-row (now (core .entry)) (now (declarations .entry)) (marks-left (now (core .entry)) (now (declarations .entry)) j i (now (work .entry))) i
+        ⌝ }
+    ensures { λ r. ⌜ now (work .exit) ≡ cleared (marks-left (now (core .entry)) (now (declarations .entry)) j i (now (work .entry))) 0 ⌝ }
 {
     look_at_places(core, declarations, work, j, i);
     let found = find_shown(core, declarations, work, i);

@@ -37,6 +37,10 @@ unfoldable pub places-looked-at : List ℕ → List ℕ → ℕ → ℕ → ℕ 
 places-looked-at core declarations j zero k work = work
 places-looked-at core declarations j (suc n) k work = places-looked-at core declarations j n (k + 1) (place-looked-at core declarations j k work)
 
+-- After the places from j up to place `to`.
+abbrev pub marks-left : List ℕ → List ℕ → ℕ → ℕ → List ℕ → List ℕ
+marks-left core declarations j to work = places-looked-at core declarations j (to - j) j work
+
 -- A row below `to`, or none.
 abbrev pub row-or-none : ℕ → ℕ → Dependence
 row-or-none to r = elim (ltb r to) [ true ↦ Yes r | false ↦ No ]
