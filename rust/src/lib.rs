@@ -157,7 +157,7 @@ fn room(source: &[u8]) -> usize {
 ///
 /// Place k shows `j` if k is `j`, or if a global row in k's type, or in k's body where k is transparent, names a place that
 /// shows `j`. So `i`'s own body counts whatever its kind, and an opaque body of a declaration on the way from `i` to `j` does
-/// not, since it is not unfolded. A global row names an earlier place, so `i` depends on earlier places only.
+/// not. A global row names an earlier place, so `i` depends on earlier places only.
 /// [`Loader::dependents`] lists all that depend on one.
 ///
 /// The source is loaded first, and a yes or a no leaves the tables as [`load`] does: the answer shows both.
