@@ -257,7 +257,7 @@ uint8_t sulyterom_token(const uint8_t *source, size_t source_length, size_t at, 
    names a place that shows j. Place k shows j if k is j, or if a global row in k's type, or in k's body where k is
    transparent, names a place that shows j. So i's own body counts whatever its kind, and an opaque body of a
    declaration on the way from i to j does not. A global row names an earlier place, so i depends on earlier places
-   only. The source is loaded first.
+   only: all that depend on j are found by asking of each place behind it. The source is loaded first.
 
    Yes: returns 0 and leaves in answer 1, the number of a row of i that names a place that shows j, 0; which of them
    is left open, and the place need not be j. No: returns 0 and leaves 0, 0, 0. After both the tables hold what
