@@ -19,7 +19,7 @@ use Rattle.dependence.specs.Asks.{asking, Asks, report-dependence}
 abbrev pub Accepted : List CoreDeclaration → Type 0
 Accepted m = (s : List ℕ) × (z : Lengths) × (ds : List Declaration) × (q : Position) × (loading s z start ≡ done ds q) × (m ≡ resolve-module s [] ds)
 
--- The way always ends: in an accepted source a global row of a declaration names an earlier place.
+-- Every path of mentions ends: in an accepted source a global row of a declaration names an earlier place.
 abbrev pub NamesEarlier : Type 0
 NamesEarlier = (m : List CoreDeclaration) → Accepted m → (i p r : ℕ) → Among p r (type-rows 0 m i) ⊎ Among p r (body-rows 0 m i) → p < i
 
