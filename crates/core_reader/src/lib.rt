@@ -12,6 +12,7 @@ ghost use mathlib.Core.Path.{_≡_};
 ghost use mathlib.Core.Bool.{_&&_};
 ghost use Prim.Native.Nat.{_/_};
 ghost use lib.ListN.{length};
+ghost use Rattle.token.specs.Classes.{ClassTable};
 ghost use Rattle.words.specs.Words.{ascii, same-bytes};
 ghost use Rattle.surface.specs.Text.{text};
 ghost use Rattle.expects.specs.Expects.{position-at};
@@ -32,18 +33,19 @@ enum Passed {
 }
 
 // The two numerals of a version, and the closing parenthesis behind them.
-fn read_version(s: &[u8], at: usize) -> VersionRead
+fn read_version(s: &[u8], classes: &[u8], at: usize) -> VersionRead
+    requires { ⌜ ClassTable (now classes) ⌝ }
     ensures { λ r. ⌜ ReadsVersion (version (now (s .entry))) at r ⌝ }
 {
-    let m = expects::parse_natural(s, at, Format::Core01);
+    let m = expects::parse_natural(s, classes, at, Format::Core01);
     match m {
         Lexed::Refused(r) => VersionRead::Refused(r),
         Lexed::Got(major) => {
-            let n = expects::parse_natural(s, major.end, Format::Core01);
+            let n = expects::parse_natural(s, classes, major.end, Format::Core01);
             match n {
                 Lexed::Refused(r) => VersionRead::Refused(r),
                 Lexed::Got(minor) => {
-                    let c = expects::expect_rparen(s, minor.end, Format::Core01);
+                    let c = expects::expect_rparen(s, classes, minor.end, Format::Core01);
                     match c {
                         Lexed::Refused(r) => VersionRead::Refused(r),
                         Lexed::Got(close) => {
@@ -58,13 +60,14 @@ fn read_version(s: &[u8], at: usize) -> VersionRead
 }
 
 // `(format 0 1)`
-fn format_line(s: &[u8], at: usize) -> VersionRead
+fn format_line(s: &[u8], classes: &[u8], at: usize) -> VersionRead
+    requires { ⌜ ClassTable (now classes) ⌝ }
     ensures { λ r. ⌜ ReadsVersion (format-line (now (s .entry))) at r ⌝ }
 {
-    let l = expects::expect_tag(s, at, b"format", Format::Core01);
+    let l = expects::expect_tag(s, classes, at, b"format", Format::Core01);
     match l {
         Lexed::Refused(r) => VersionRead::Refused(r),
-        Lexed::Got(w) => read_version(s, w.end),
+        Lexed::Got(w) => read_version(s, classes, w.end),
     }
 }
 
@@ -88,18 +91,19 @@ fn is_theory(s: &[u8], name: Token) -> bool
 }
 
 // `(theory "mltt-core" 0 1)`
-fn theory_line(s: &[u8], at: usize) -> VersionRead
+fn theory_line(s: &[u8], classes: &[u8], at: usize) -> VersionRead
+    requires { ⌜ ClassTable (now classes) ⌝ }
     ensures { λ r. ⌜ ReadsVersion (theory-line (now (s .entry))) at r ⌝ }
 {
-    let l = expects::expect_tag(s, at, b"theory", Format::Core01);
+    let l = expects::expect_tag(s, classes, at, b"theory", Format::Core01);
     match l {
         Lexed::Refused(r) => VersionRead::Refused(r),
         Lexed::Got(w) => {
-            let x = expects::parse_name(s, w.end, Format::Core01);
+            let x = expects::parse_name(s, classes, w.end, Format::Core01);
             match x {
                 NameRead::Refused(r) => VersionRead::Refused(r),
                 NameRead::Got(name, next) => {
-                    let v = read_version(s, next);
+                    let v = read_version(s, classes, next);
                     match v {
                         VersionRead::Refused(r) => VersionRead::Refused(r),
                         VersionRead::Got(supported, end) => {
@@ -114,18 +118,19 @@ fn theory_line(s: &[u8], at: usize) -> VersionRead
 }
 
 // The head. Its versions and the theory's name are judged behind the theory's parenthesis.
-fn read_head(s: &[u8]) -> Passed
+fn read_head(s: &[u8], classes: &[u8]) -> Passed
+    requires { ⌜ ClassTable (now classes) ⌝ }
     ensures { λ r. ⌜ Passes (head (now (s .entry))) 0 r ⌝ }
 {
-    let l = expects::expect_tag(s, 0, b"hott-core", Format::Core01);
+    let l = expects::expect_tag(s, classes, 0, b"hott-core", Format::Core01);
     match l {
         Lexed::Refused(r) => Passed::Refused(r),
         Lexed::Got(w) => {
-            let f = format_line(s, w.end);
+            let f = format_line(s, classes, w.end);
             match f {
                 VersionRead::Refused(r) => Passed::Refused(r),
                 VersionRead::Got(format, next) => {
-                    let t = theory_line(s, next);
+                    let t = theory_line(s, classes, next);
                     match t {
                         VersionRead::Refused(r) => Passed::Refused(r),
                         VersionRead::Got(theory, end) => {
@@ -142,14 +147,15 @@ fn read_head(s: &[u8]) -> Passed
 }
 
 // What stands behind the declarations: the closing parenthesis of the whole text, and the end.
-fn read_end(s: &[u8], at: usize) -> Passed
+fn read_end(s: &[u8], classes: &[u8], at: usize) -> Passed
+    requires { ⌜ ClassTable (now classes) ⌝ }
     ensures { λ r. ⌜ Passes (text-end (now (s .entry))) at r ⌝ }
 {
-    let l = expects::expect_rparen(s, at, Format::Core01);
+    let l = expects::expect_rparen(s, classes, at, Format::Core01);
     match l {
         Lexed::Refused(r) => Passed::Refused(r),
         Lexed::Got(close) => {
-            let e = expects::expect_end(s, close.end, Format::Core01);
+            let e = expects::expect_end(s, classes, close.end, Format::Core01);
             match e {
                 Lexed::Refused(r) => Passed::Refused(r),
                 Lexed::Got(t) => Passed::At(t.end),
@@ -161,18 +167,20 @@ fn read_end(s: &[u8], at: usize) -> Passed
 // The declarations behind their tag, and what stands behind them.
 fn read_behind(
     s: &[u8],
+    classes: &[u8],
     table: &mut [u32],
     list: &mut [u32],
     work: &mut [u32],
     at: usize,
 ) -> ModuleRead
+    requires { ⌜ ClassTable (now classes) ⌝ }
     ensures { λ r. ⌜ ReadsBehind (behind-tag (now (s .entry)) (length (now (table .entry)) / 8) (length (now (list .entry)) / 5) (position-at at 0)) (now (s .entry)) (now (table .entry)) (now (list .entry)) (now (work .entry)) at r (now (table .exit)) (now (list .exit)) ⌝ }
 {
     let limits = Limits {
         rows: table.len() / 8,
         declarations: list.len() / 5,
     };
-    let d = reader::read_declarations(s, table, list, work, at, limits, Format::Core01);
+    let d = reader::read_declarations(s, classes, table, list, work, at, limits, Format::Core01);
     match d {
         DeclarationsRead::Refused(r) => ModuleRead::Refused(r),
         DeclarationsRead::Done {
@@ -180,7 +188,7 @@ fn read_behind(
             declarations,
             next,
         } => {
-            let e = read_end(s, next);
+            let e = read_end(s, classes, next);
             match e {
                 Passed::Refused(r) => ModuleRead::Refused(r),
                 Passed::At(_) => ModuleRead::Done {
@@ -193,18 +201,33 @@ fn read_behind(
 }
 
 // The port of `parse_module`, but for the test of the names: a core text into rows and records.
-pub fn read_text(s: &[u8], table: &mut [u32], list: &mut [u32], work: &mut [u32]) -> ModuleRead
+fn read_by(
+    s: &[u8],
+    classes: &[u8],
+    table: &mut [u32],
+    list: &mut [u32],
+    work: &mut [u32],
+) -> ModuleRead
+    requires { ⌜ ClassTable (now classes) ⌝ }
     ensures { λ r. ⌜ ReadsWhole (now (s .entry)) (now (table .entry)) (now (list .entry)) (now (work .entry)) r (now (table .exit)) (now (list .exit)) ⌝ }
 {
-    let h = read_head(s);
+    let h = read_head(s, classes);
     match h {
         Passed::Refused(r) => ModuleRead::Refused(r),
         Passed::At(next) => {
-            let l = expects::expect_tag(s, next, b"declarations", Format::Core01);
+            let l = expects::expect_tag(s, classes, next, b"declarations", Format::Core01);
             match l {
                 Lexed::Refused(r) => ModuleRead::Refused(r),
-                Lexed::Got(w) => read_behind(s, table, list, work, w.end),
+                Lexed::Got(w) => read_behind(s, classes, table, list, work, w.end),
             }
         }
     }
+}
+
+// What is read for a core text has tokens of its own; a reader of all formats is handed the table all the same.
+pub fn read_text(s: &[u8], table: &mut [u32], list: &mut [u32], work: &mut [u32]) -> ModuleRead
+    ensures { λ r. ⌜ ReadsWhole (now (s .entry)) (now (table .entry)) (now (list .entry)) (now (work .entry)) r (now (table .exit)) (now (list .exit)) ⌝ }
+{
+    let classes = token::class_table();
+    read_by(s, &classes, table, list, work)
 }

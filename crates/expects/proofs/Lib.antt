@@ -11,3 +11,4 @@ mod Shapes
 mod Terms
 pub mod Lines
 mod Strings
+mod Identifiers

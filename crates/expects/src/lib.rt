@@ -3,6 +3,7 @@
 ghost use mathlib.Core.Path.{_≡_};
 ghost use Prim.Native.Nat.{ℕ, _≤_, _<_};
 ghost use lib.ListN.{length};
+ghost use Rattle.token.specs.Classes.{ClassTable, NameAt};
 ghost use Rattle.terms.specs.Forms.{forms, form-of-word};
 ghost use Rattle.terms.specs.TextForms.{text-forms};
 ghost use Rattle.core_text.specs.TextReading.{end-token};
@@ -88,17 +89,19 @@ fn kind_number(k: TokenKind) -> u8
 }
 
 // The next token of a format.
-fn lex(s: &[u8], at: usize, format: Format) -> Lexed
+fn lex(s: &[u8], classes: &[u8], at: usize, format: Format) -> Lexed
+    requires { ⌜ ClassTable (now classes) ⌝ }
     ensures { λ r. ⌜ r ≡ edition format .tokens (now (s .entry)) at ⌝ }
 {
     match format {
-        Format::Surface01 => token::next_token(s, at),
+        Format::Surface01 => token::next_token_by(s, classes, at),
         Format::Core01 => core_token::next_core_token(s, at),
     }
 }
 
 // The next token. An opening parenthesis that stands at its place is told there, before layout is looked for.
-fn open_at(s: &[u8], at: usize, format: Format) -> Lexed
+fn open_at(s: &[u8], classes: &[u8], at: usize, format: Format) -> Lexed
+    requires { ⌜ ClassTable (now classes) ⌝ }
     ensures { λ r. ⌜ r ≡ edition format .tokens (now (s .entry)) at ⌝ }
 {
     if at < s.len() {
@@ -111,11 +114,12 @@ fn open_at(s: &[u8], at: usize, format: Format) -> Lexed
             });
         }
     }
-    lex(s, at, format)
+    lex(s, classes, at, format)
 }
 
 // The same for a closing parenthesis.
-fn close_at(s: &[u8], at: usize, format: Format) -> Lexed
+fn close_at(s: &[u8], classes: &[u8], at: usize, format: Format) -> Lexed
+    requires { ⌜ ClassTable (now classes) ⌝ }
     ensures { λ r. ⌜ r ≡ edition format .tokens (now (s .entry)) at ⌝ }
 {
     if at < s.len() {
@@ -128,7 +132,7 @@ fn close_at(s: &[u8], at: usize, format: Format) -> Lexed
             });
         }
     }
-    lex(s, at, format)
+    lex(s, classes, at, format)
 }
 
 // One space, as often stands between two tokens, is passed before the token is looked at.
@@ -143,10 +147,11 @@ fn behind_space(s: &[u8], at: usize) -> usize
     at
 }
 
-pub fn next_token(s: &[u8], at: usize, format: Format) -> Lexed
+pub fn next_token(s: &[u8], classes: &[u8], at: usize, format: Format) -> Lexed
+    requires { ⌜ ClassTable (now classes) ⌝ }
     ensures { λ r. ⌜ r ≡ edition format .tokens (now (s .entry)) at ⌝ }
 {
-    open_at(s, behind_space(s, at), format)
+    open_at(s, classes, behind_space(s, at), format)
 }
 
 // A token that was read, which must be of the wanted kind.
@@ -166,35 +171,52 @@ fn expect_kind(l: Lexed, wanted: TokenKind) -> Lexed
     }
 }
 
-pub fn expect_lparen(s: &[u8], at: usize, format: Format) -> Lexed
+pub fn expect_lparen(s: &[u8], classes: &[u8], at: usize, format: Format) -> Lexed
+    requires { ⌜ ClassTable (now classes) ⌝ }
     ensures { λ r. ⌜ Reads (opening (edition format .tokens (now (s .entry)))) at r ⌝ }
 {
-    expect_kind(open_at(s, at, format), TokenKind::LParen)
+    expect_kind(open_at(s, classes, at, format), TokenKind::LParen)
 }
 
-pub fn expect_rparen(s: &[u8], at: usize, format: Format) -> Lexed
+pub fn expect_rparen(s: &[u8], classes: &[u8], at: usize, format: Format) -> Lexed
+    requires { ⌜ ClassTable (now classes) ⌝ }
     ensures { λ r. ⌜ Reads (closing (edition format .tokens (now (s .entry)))) at r ⌝ }
 {
-    expect_kind(close_at(s, at, format), TokenKind::RParen)
+    expect_kind(close_at(s, classes, at, format), TokenKind::RParen)
 }
 
 // The end of a core text.
-pub fn expect_end(s: &[u8], at: usize, format: Format) -> Lexed
+pub fn expect_end(s: &[u8], classes: &[u8], at: usize, format: Format) -> Lexed
+    requires { ⌜ ClassTable (now classes) ⌝ }
     ensures { λ r. ⌜ Reads (end-token (edition format .tokens (now (s .entry)))) at r ⌝ }
 {
-    expect_kind(lex(s, at, format), TokenKind::Eof)
+    expect_kind(lex(s, classes, at, format), TokenKind::Eof)
 }
 
-pub fn next_atom(s: &[u8], at: usize, format: Format) -> Lexed
+// As `expect_kind` would have it, but the token is not handed on.
+pub fn next_atom(s: &[u8], classes: &[u8], at: usize, format: Format) -> Lexed
+    requires { ⌜ ClassTable (now classes) ⌝ }
     ensures { λ r. ⌜ Reads (atom (edition format .tokens (now (s .entry)))) at r ⌝ }
 {
-    expect_kind(lex(s, at, format), TokenKind::Atom)
+    let l = lex(s, classes, at, format);
+    match l {
+        Lexed::Refused(r) => Lexed::Refused(r),
+        Lexed::Got(t) => {
+            let kind = t.kind;
+            let start = t.start;
+            if kind_number(kind) == kind_number(TokenKind::Atom) {
+                return Lexed::Got(t);
+            }
+            Lexed::Refused(refused_at(1, start))
+        }
+    }
 }
 
-pub fn expect_atom(s: &[u8], at: usize, expected: &[u8], format: Format) -> Lexed
+pub fn expect_atom(s: &[u8], classes: &[u8], at: usize, expected: &[u8], format: Format) -> Lexed
+    requires { ⌜ ClassTable (now classes) ⌝ }
     ensures { λ r. ⌜ Reads (word (edition format .tokens (now (s .entry))) (now (s .entry)) (now (expected .entry))) at r ⌝ }
 {
-    let l = next_atom(s, at, format);
+    let l = next_atom(s, classes, at, format);
     match l {
         Lexed::Refused(r) => Lexed::Refused(r),
         Lexed::Got(t) => {
@@ -208,10 +230,11 @@ pub fn expect_atom(s: &[u8], at: usize, expected: &[u8], format: Format) -> Lexe
     }
 }
 
-pub fn parse_natural(s: &[u8], at: usize, format: Format) -> Lexed
+pub fn parse_natural(s: &[u8], classes: &[u8], at: usize, format: Format) -> Lexed
+    requires { ⌜ ClassTable (now classes) ⌝ }
     ensures { λ r. ⌜ Reads (natural (edition format .tokens (now (s .entry))) (now (s .entry))) at r ⌝ }
 {
-    let l = next_atom(s, at, format);
+    let l = next_atom(s, classes, at, format);
     match l {
         Lexed::Refused(r) => Lexed::Refused(r),
         Lexed::Got(t) => {
@@ -241,10 +264,12 @@ fn name_test(w: &[u8], format: Format) -> NameTest
     }
 }
 
-pub fn parse_identifier(s: &[u8], at: usize, format: Format) -> Lexed
+// An atom that is tested for a name behind its end.
+fn tested_identifier(s: &[u8], classes: &[u8], at: usize, format: Format) -> Lexed
+    requires { ⌜ ClassTable (now classes) ⌝ }
     ensures { λ r. ⌜ Reads (name (edition format) (now (s .entry))) at r ⌝ }
 {
-    let l = next_atom(s, at, format);
+    let l = next_atom(s, classes, at, format);
     match l {
         Lexed::Refused(r) => Lexed::Refused(r),
         Lexed::Got(t) => {
@@ -260,11 +285,53 @@ pub fn parse_identifier(s: &[u8], at: usize, format: Format) -> Lexed
     }
 }
 
+// Behind the layout from `at` on, up to a comment. In core text nothing is passed.
+fn blank_end(s: &[u8], classes: &[u8], at: usize, format: Format) -> usize
+    requires { ⌜ ClassTable (now classes) ⌝ }
+    ensures { λ r. ⌜ edition format .tokens (now (s .entry)) r ≡ edition format .tokens (now (s .entry)) at ⌝ }
+{
+    match format {
+        Format::Surface01 => token::skip_blank(s, classes, at),
+        Format::Core01 => at,
+    }
+}
+
+// The end of an identifier of a source that starts at `start`; else `start`, as in core text.
+fn name_end(s: &[u8], classes: &[u8], start: usize, format: Format) -> usize
+    requires { ⌜ ClassTable (now classes) ⌝ }
+    ensures { λ r. ⌜ (start < r → (format ≡ Format.Surface01) × NameAt (now (s .entry)) start r) ⌝ }
+{
+    match format {
+        Format::Surface01 => token::name_end(s, classes, start),
+        Format::Core01 => start,
+    }
+}
+
+// Most identifiers are told while their end is looked for.
+pub fn parse_identifier(s: &[u8], classes: &[u8], at: usize, format: Format) -> Lexed
+    requires { ⌜ ClassTable (now classes) ⌝ }
+    ensures { λ r. ⌜ Reads (name (edition format) (now (s .entry))) at r ⌝ }
+{
+    let start = blank_end(s, classes, at, format);
+    let end = name_end(s, classes, start, format);
+    if start < end {
+        if !words::is_reserved(&s[start..end]) {
+            return Lexed::Got(Token {
+                kind: TokenKind::Atom,
+                start: start,
+                end: end,
+            });
+        }
+    }
+    tested_identifier(s, classes, start, format)
+}
+
 // The name of a declaration of a source: an identifier.
-fn identifier_name(s: &[u8], at: usize) -> NameRead
+fn identifier_name(s: &[u8], classes: &[u8], at: usize) -> NameRead
+    requires { ⌜ ClassTable (now classes) ⌝ }
     ensures { λ r. ⌜ Names Format.Surface01 (now (s .entry)) at r ⌝ }
 {
-    let l = parse_identifier(s, at, Format::Surface01);
+    let l = parse_identifier(s, classes, at, Format::Surface01);
     match l {
         Lexed::Refused(r) => NameRead::Refused(r),
         Lexed::Got(t) => NameRead::Got(t, t.end),
@@ -298,11 +365,12 @@ fn string_name(s: &[u8], at: usize) -> NameRead
 }
 
 // The name of a declaration.
-pub fn parse_name(s: &[u8], at: usize, format: Format) -> NameRead
+pub fn parse_name(s: &[u8], classes: &[u8], at: usize, format: Format) -> NameRead
+    requires { ⌜ ClassTable (now classes) ⌝ }
     ensures { λ r. ⌜ Names format (now (s .entry)) at r ⌝ }
 {
     match format {
-        Format::Surface01 => identifier_name(s, at),
+        Format::Surface01 => identifier_name(s, classes, at),
         Format::Core01 => string_name(s, at),
     }
 }
@@ -461,14 +529,15 @@ fn begin_bare(s: &[u8], t: Token) -> Begun
 }
 
 // The term of a kind with the atom x that was read, to its closing parenthesis.
-fn close_leaf(s: &[u8], kind: u32, offset: usize, x: Lexed, format: Format) -> Begun
+fn close_leaf(s: &[u8], classes: &[u8], kind: u32, offset: usize, x: Lexed, format: Format) -> Begun
     requires { ⌜ LexedInside (length (now s)) x ⌝ }
+    requires { ⌜ ClassTable (now classes) ⌝ }
     ensures { λ r. ⌜ ClosesLeaf (edition format) (now (s .entry)) kind offset x r ⌝ }
 {
     match x {
         Lexed::Refused(r) => Begun::Refused(r),
         Lexed::Got(t) => {
-            let c = expect_rparen(s, t.end, format);
+            let c = expect_rparen(s, classes, t.end, format);
             match c {
                 Lexed::Refused(r) => Begun::Refused(r),
                 Lexed::Got(close) => Begun::Leaf(label_with(kind, t, offset), close.end),
@@ -478,8 +547,9 @@ fn close_leaf(s: &[u8], kind: u32, offset: usize, x: Lexed, format: Format) -> B
 }
 
 // The beginning of a term behind its parenthesis and its word t.
-fn begin_tagged(s: &[u8], lparen: Token, t: Token, format: Format) -> Begun
+fn begin_tagged(s: &[u8], classes: &[u8], lparen: Token, t: Token, format: Format) -> Begun
     requires { ⌜ TokenInside (length (now s)) t ⌝ }
+    requires { ⌜ ClassTable (now classes) ⌝ }
     ensures { λ r. ⌜ BeginsWith (edition format) (now (s .entry)) lparen t r ⌝ }
 {
     let a = t.start;
@@ -490,12 +560,26 @@ fn begin_tagged(s: &[u8], lparen: Token, t: Token, format: Format) -> Begun
     let offset = lparen.start;
     match shape {
         // (ref NAME)
-        2 => close_leaf(s, kind, offset, parse_identifier(s, e, format), format),
+        2 => close_leaf(
+            s,
+            classes,
+            kind,
+            offset,
+            parse_identifier(s, classes, e, format),
+            format,
+        ),
         // (universe NUMERAL)
-        3 => close_leaf(s, kind, offset, parse_natural(s, e, format), format),
+        3 => close_leaf(
+            s,
+            classes,
+            kind,
+            offset,
+            parse_natural(s, classes, e, format),
+            format,
+        ),
         // A binder is read and tested before the frame is opened.
         4 => {
-            let x = parse_identifier(s, e, format);
+            let x = parse_identifier(s, classes, e, format);
             match x {
                 Lexed::Refused(r) => Begun::Refused(r),
                 Lexed::Got(binder) => Begun::Frame(label_with(kind, binder, offset), binder.end),
@@ -507,27 +591,29 @@ fn begin_tagged(s: &[u8], lparen: Token, t: Token, format: Format) -> Begun
 }
 
 // The beginning of a term behind its parenthesis.
-fn begin_form(s: &[u8], lparen: Token, format: Format) -> Begun
+fn begin_form(s: &[u8], classes: &[u8], lparen: Token, format: Format) -> Begun
+    requires { ⌜ ClassTable (now classes) ⌝ }
     ensures { λ r. ⌜ BeginsOn (edition format) (now (s .entry)) lparen TokenKind.LParen r ⌝ }
 {
-    let l = next_atom(s, lparen.end, format);
+    let l = next_atom(s, classes, lparen.end, format);
     match l {
         Lexed::Refused(r) => Begun::Refused(r),
-        Lexed::Got(t) => begin_tagged(s, lparen, t, format),
+        Lexed::Got(t) => begin_tagged(s, classes, lparen, t, format),
     }
 }
 
 // What a term begins with: all of a term without arguments, or a form with its name.
-pub fn begin_term(s: &[u8], at: usize, format: Format) -> Begun
+pub fn begin_term(s: &[u8], classes: &[u8], at: usize, format: Format) -> Begun
+    requires { ⌜ ClassTable (now classes) ⌝ }
     ensures { λ r. ⌜ Begins (edition format) (now (s .entry)) at r ⌝ }
 {
-    let l = next_token(s, at, format);
+    let l = next_token(s, classes, at, format);
     match l {
         Lexed::Refused(r) => Begun::Refused(r),
         Lexed::Got(t) => {
             let kind = t.kind;
             match kind {
-                TokenKind::LParen => begin_form(s, t, format),
+                TokenKind::LParen => begin_form(s, classes, t, format),
                 TokenKind::Atom => begin_bare(s, t),
                 _ => Begun::Refused(refused_at(1, t.start)),
             }
@@ -536,13 +622,14 @@ pub fn begin_term(s: &[u8], at: usize, format: Format) -> Begun
 }
 
 // The parenthesis and the word that a line of the head begins with.
-pub fn expect_tag(s: &[u8], at: usize, expected: &[u8], format: Format) -> Lexed
+pub fn expect_tag(s: &[u8], classes: &[u8], at: usize, expected: &[u8], format: Format) -> Lexed
+    requires { ⌜ ClassTable (now classes) ⌝ }
     ensures { λ r. ⌜ Reads (tag (edition format .tokens (now (s .entry))) (now (s .entry)) (now (expected .entry))) at r ⌝ }
 {
-    let l = expect_lparen(s, at, format);
+    let l = expect_lparen(s, classes, at, format);
     match l {
         Lexed::Refused(r) => Lexed::Refused(r),
-        Lexed::Got(lparen) => expect_atom(s, lparen.end, expected, format),
+        Lexed::Got(lparen) => expect_atom(s, classes, lparen.end, expected, format),
     }
 }
 
@@ -563,12 +650,13 @@ pub fn is_supported(s: &[u8], major: Token, minor: Token) -> bool
 }
 
 // The rest of the surface line behind its numerals: the closing parenthesis, and only then the version.
-fn close_version(s: &[u8], major: Token, minor: Token) -> Lexed
+fn close_version(s: &[u8], classes: &[u8], major: Token, minor: Token) -> Lexed
     requires { ⌜ TokenInside (length (now s)) major ⌝ }
     requires { ⌜ TokenInside (length (now s)) minor ⌝ }
+    requires { ⌜ ClassTable (now classes) ⌝ }
     ensures { λ r. ⌜ ClosesVersion (now (s .entry)) major minor r ⌝ }
 {
-    let l = expect_rparen(s, minor.end, Format::Surface01);
+    let l = expect_rparen(s, classes, minor.end, Format::Surface01);
     match l {
         Lexed::Refused(unclosed) => Lexed::Refused(unclosed),
         Lexed::Got(close) => {
@@ -584,21 +672,22 @@ fn close_version(s: &[u8], major: Token, minor: Token) -> Lexed
 }
 
 // `(surface 0 1)`: its closing parenthesis.
-fn surface_line(s: &[u8]) -> Lexed
+fn surface_line(s: &[u8], classes: &[u8]) -> Lexed
+    requires { ⌜ ClassTable (now classes) ⌝ }
     ensures { λ r. ⌜ SurfaceLine (now (s .entry)) r ⌝ }
 {
-    let l = expect_tag(s, 0, b"surface", Format::Surface01);
+    let l = expect_tag(s, classes, 0, b"surface", Format::Surface01);
     match l {
         Lexed::Refused(r) => Lexed::Refused(r),
         Lexed::Got(w) => {
-            let m = parse_natural(s, w.end, Format::Surface01);
+            let m = parse_natural(s, classes, w.end, Format::Surface01);
             match m {
                 Lexed::Refused(r) => Lexed::Refused(r),
                 Lexed::Got(major) => {
-                    let n = parse_natural(s, major.end, Format::Surface01);
+                    let n = parse_natural(s, classes, major.end, Format::Surface01);
                     match n {
                         Lexed::Refused(r) => Lexed::Refused(r),
-                        Lexed::Got(minor) => close_version(s, major, minor),
+                        Lexed::Got(minor) => close_version(s, classes, major, minor),
                     }
                 }
             }
@@ -607,18 +696,19 @@ fn surface_line(s: &[u8]) -> Lexed
 }
 
 // `(module NAME)`
-fn module_line(s: &[u8], at: usize, format: Format) -> HeadRead
+fn module_line(s: &[u8], classes: &[u8], at: usize, format: Format) -> HeadRead
+    requires { ⌜ ClassTable (now classes) ⌝ }
     ensures { λ r. ⌜ ModuleLine (now (s .entry)) format at r ⌝ }
 {
-    let l = expect_tag(s, at, b"module", Format::Surface01);
+    let l = expect_tag(s, classes, at, b"module", Format::Surface01);
     match l {
         Lexed::Refused(r) => HeadRead::Refused(r),
         Lexed::Got(w) => {
-            let m = parse_identifier(s, w.end, format);
+            let m = parse_identifier(s, classes, w.end, format);
             match m {
                 Lexed::Refused(r) => HeadRead::Refused(r),
                 Lexed::Got(x) => {
-                    let c = expect_rparen(s, x.end, Format::Surface01);
+                    let c = expect_rparen(s, classes, x.end, Format::Surface01);
                     match c {
                         Lexed::Refused(r) => HeadRead::Refused(r),
                         Lexed::Got(close) => HeadRead::Name(format, x, close.end),
@@ -629,12 +719,13 @@ fn module_line(s: &[u8], at: usize, format: Format) -> HeadRead
     }
 }
 
-pub fn read_head(s: &[u8]) -> HeadRead
+pub fn read_head(s: &[u8], classes: &[u8]) -> HeadRead
+    requires { ⌜ ClassTable (now classes) ⌝ }
     ensures { λ r. ⌜ Heads (now (s .entry)) r ⌝ }
 {
-    let l = surface_line(s);
+    let l = surface_line(s, classes);
     match l {
         Lexed::Refused(r) => HeadRead::Refused(r),
-        Lexed::Got(close) => module_line(s, close.end, Format::Surface01),
+        Lexed::Got(close) => module_line(s, classes, close.end, Format::Surface01),
     }
 }

@@ -9,6 +9,7 @@ ghost use mathlib.Core.Path.{_≡_};
 ghost use mathlib.Core.Bool.{true, false};
 ghost use Prim.Native.Nat.{_<_, _≤_};
 ghost use lib.ListN.{take};
+ghost use Rattle.token.specs.Classes.{ClassTable};
 ghost use Rattle.terms.specs.Forms.{holds-span-in};
 ghost use Rattle.terms.specs.Rows.{row-holding};
 ghost use Rattle.expects.specs.Formats.{edition};
@@ -91,6 +92,7 @@ fn push_term(
 // A term is to be read: all of it, or a new frame.
 fn term_step(
     s: &[u8],
+    classes: &[u8],
     table: &mut [u32],
     work: &mut [u32],
     st: State,
@@ -99,12 +101,13 @@ fn term_step(
 ) -> TermStep
     requires { ⌜ TermInside 512 (now s) (now work) st ⌝ }
     requires { ⌜ st .have ≡ false ⌝ }
+    requires { ⌜ ClassTable (now classes) ⌝ }
     ensures { λ r. ⌜ TermStepped (now (s .entry)) (setting (edition format) (now (s .entry)) limit) (now (table .entry)) (now (work .entry)) st r (now (table .exit)) (now (work .exit)) ⌝ }
 {
     let at = st.at;
     let rows = st.rows;
     let depth = st.depth;
-    let begun = expects::begin_term(s, at, format);
+    let begun = expects::begin_term(s, classes, at, format);
     match begun {
         Begun::Refused(r) => TermStep::Refused(r),
         Begun::Leaf(label, next) => {
@@ -131,6 +134,7 @@ fn term_step(
 // A term is complete and a frame is open, which takes it. With its last argument the form is complete.
 fn value_step(
     s: &[u8],
+    classes: &[u8],
     table: &mut [u32],
     work: &mut [u32],
     st: State,
@@ -140,6 +144,7 @@ fn value_step(
     requires { ⌜ TermInside 512 (now s) (now work) st ⌝ }
     requires { ⌜ st .have ≡ true ⌝ }
     requires { ⌜ 0 < st .depth ⌝ }
+    requires { ⌜ ClassTable (now classes) ⌝ }
     ensures { λ r. ⌜ TermStepped (now (s .entry)) (setting (edition format) (now (s .entry)) limit) (now (table .entry)) (now (work .entry)) st r (now (table .exit)) (now (work .exit)) ⌝ }
 {
     let at = st.at;
@@ -158,7 +163,7 @@ fn value_step(
             have: false,
         });
     }
-    let close = expects::expect_rparen(s, at, format);
+    let close = expects::expect_rparen(s, classes, at, format);
     match close {
         Lexed::Refused(r) => TermStep::Refused(r),
         Lexed::Got(t) => {
@@ -174,6 +179,7 @@ fn value_step(
 // A term to be read, or one that an open frame takes.
 fn next_step(
     s: &[u8],
+    classes: &[u8],
     table: &mut [u32],
     work: &mut [u32],
     st: State,
@@ -182,13 +188,14 @@ fn next_step(
 ) -> TermStep
     requires { ⌜ TermInside 512 (now s) (now work) st ⌝ }
     requires { ⌜ ended st ≡ false ⌝ }
+    requires { ⌜ ClassTable (now classes) ⌝ }
     ensures { λ r. ⌜ TermStepped (now (s .entry)) (setting (edition format) (now (s .entry)) limit) (now (table .entry)) (now (work .entry)) st r (now (table .exit)) (now (work .exit)) ⌝ }
 {
     let have = st.have;
     if have {
-        return value_step(s, table, work, st, limit, format);
+        return value_step(s, classes, table, work, st, limit, format);
     }
-    term_step(s, table, work, st, limit, format)
+    term_step(s, classes, table, work, st, limit, format)
 }
 
 // A term is complete and no frame is open.
@@ -222,6 +229,7 @@ fn is_ready(source: usize, area: usize, at: usize, rows: usize) -> bool
 // `limit` rows. A table that has no place for them leaves them out, and they are counted all the same.
 pub fn read_term(
     s: &[u8],
+    classes: &[u8],
     table: &mut [u32],
     work: &mut [u32],
     at: usize,
@@ -229,6 +237,7 @@ pub fn read_term(
     limit: usize,
     format: Format,
 ) -> TermRead
+    requires { ⌜ ClassTable (now classes) ⌝ }
     ensures { λ r. ⌜ ReadsTerm (edition format) limit (now (s .entry)) (now (table .entry)) (now (work .entry)) at rows r (now (table .exit)) ⌝ }
 {
     if !is_ready(s.len(), work.len(), at, rows) {
@@ -249,7 +258,7 @@ pub fn read_term(
                 next: st.at,
             };
         }
-        let r = next_step(s, table, work, st, limit, format);
+        let r = next_step(s, classes, table, work, st, limit, format);
         match r {
             TermStep::Go(t) => {
                 st = t;

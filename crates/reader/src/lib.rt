@@ -4,6 +4,7 @@ ghost use mathlib.Core.Path.{_≡_};
 ghost use mathlib.Core.List.{[], _∷_};
 ghost use Prim.Native.Nat.{_-_, _/_, _≤_, _<_};
 ghost use lib.ListN.{length};
+ghost use Rattle.token.specs.Classes.{ClassTable};
 ghost use Rattle.surface.specs.Reader.{start};
 ghost use Rattle.surface.specs.Reading.{closing, read-module};
 ghost use Rattle.expects.specs.Formats.{edition};
@@ -67,6 +68,7 @@ fn declaration_record(kind: u32, name: Token, type_row: u32, body_row: u32) -> [
 // The body of a declaration: a postulate, of kind 1, has none.
 fn read_body(
     s: &[u8],
+    classes: &[u8],
     table: &mut [u32],
     work: &mut [u32],
     kind: u32,
@@ -75,6 +77,7 @@ fn read_body(
     limits: Limits,
     format: Format,
 ) -> TermRead
+    requires { ⌜ ClassTable (now classes) ⌝ }
     ensures { λ r. ⌜ ReadsBody format limits (now (s .entry)) (now (table .entry)) (now (work .entry)) kind at rows r (now (table .exit)) ⌝ }
 {
     if kind == 1 {
@@ -84,12 +87,13 @@ fn read_body(
             next: at,
         };
     }
-    parser::read_term(s, table, work, at, rows, limits.rows, format)
+    parser::read_term(s, classes, table, work, at, rows, limits.rows, format)
 }
 
 // The closing parenthesis of a declaration, and only then its record.
 fn finish_declaration(
     s: &[u8],
+    classes: &[u8],
     list: &mut [u32],
     at: usize,
     rows: usize,
@@ -97,9 +101,10 @@ fn finish_declaration(
     record: [u32; 5],
     format: Format,
 ) -> DeclarationRead
+    requires { ⌜ ClassTable (now classes) ⌝ }
     ensures { λ r. ⌜ Finishes (closing (edition format .tokens (now (s .entry))) (position-at at rows)) k (now (list .entry)) «record» r (now (list .exit)) ⌝ }
 {
-    let l = expects::expect_rparen(s, at, format);
+    let l = expects::expect_rparen(s, classes, at, format);
     match l {
         Lexed::Refused(r) => DeclarationRead::Refused(r),
         Lexed::Got(close) => {
@@ -115,6 +120,7 @@ fn finish_declaration(
 // A declaration of some kind behind its word: its name, its type, its body if the kind has one, and its end.
 fn read_named(
     s: &[u8],
+    classes: &[u8],
     table: &mut [u32],
     list: &mut [u32],
     work: &mut [u32],
@@ -125,22 +131,23 @@ fn read_named(
     limits: Limits,
     format: Format,
 ) -> DeclarationRead
+    requires { ⌜ ClassTable (now classes) ⌝ }
     ensures { λ r. ⌜ ReadsNamed format limits (now (s .entry)) (now (table .entry)) (now (list .entry)) (now (work .entry)) kind at rows k r (now (table .exit)) (now (list .exit)) ⌝ }
 {
-    let x = expects::parse_name(s, at, format);
+    let x = expects::parse_name(s, classes, at, format);
     match x {
         NameRead::Refused(r) => DeclarationRead::Refused(r),
         NameRead::Got(name, behind) => {
-            let ty = parser::read_term(s, table, work, behind, rows, limits.rows, format);
+            let ty = parser::read_term(s, classes, table, work, behind, rows, limits.rows, format);
             match ty {
                 TermRead::Refused(r) => DeclarationRead::Refused(r),
                 TermRead::Done { row, rows, next } => {
-                    let body = read_body(s, table, work, kind, next, rows, limits, format);
+                    let body = read_body(s, classes, table, work, kind, next, rows, limits, format);
                     match body {
                         TermRead::Refused(r) => DeclarationRead::Refused(r),
                         TermRead::Done { row: b, rows, next } => {
                             let record = declaration_record(kind, name, row, b);
-                            finish_declaration(s, list, next, rows, k, record, format)
+                            finish_declaration(s, classes, list, next, rows, k, record, format)
                         }
                     }
                 }
@@ -152,6 +159,7 @@ fn read_named(
 // The declaration behind an opening parenthesis: its rows are stored behind the others, and its record at place k.
 fn read_declaration(
     s: &[u8],
+    classes: &[u8],
     table: &mut [u32],
     list: &mut [u32],
     work: &mut [u32],
@@ -161,9 +169,10 @@ fn read_declaration(
     limits: Limits,
     format: Format,
 ) -> DeclarationRead
+    requires { ⌜ ClassTable (now classes) ⌝ }
     ensures { λ r. ⌜ ReadsDeclaration format limits (now (s .entry)) (now (table .entry)) (now (list .entry)) (now (work .entry)) at rows k r (now (table .exit)) (now (list .exit)) ⌝ }
 {
-    let l = expects::next_atom(s, at, format);
+    let l = expects::next_atom(s, classes, at, format);
     match l {
         Lexed::Refused(r) => DeclarationRead::Refused(r),
         Lexed::Got(tag) => {
@@ -173,7 +182,19 @@ fn read_declaration(
             if kind == 0 {
                 return DeclarationRead::Refused(expects::refused_at(1, a));
             }
-            read_named(s, table, list, work, kind, e, rows, k, limits, format)
+            read_named(
+                s,
+                classes,
+                table,
+                list,
+                work,
+                kind,
+                e,
+                rows,
+                k,
+                limits,
+                format,
+            )
         }
     }
 }
@@ -181,6 +202,7 @@ fn read_declaration(
 // What stands next: the end, or a declaration. A full list is refused before the declaration's word is read.
 fn next_declaration(
     s: &[u8],
+    classes: &[u8],
     table: &mut [u32],
     list: &mut [u32],
     work: &mut [u32],
@@ -190,10 +212,11 @@ fn next_declaration(
     limits: Limits,
     format: Format,
 ) -> ModuleStep
+    requires { ⌜ ClassTable (now classes) ⌝ }
     ensures { λ r. ⌜ Steps format limits (now (s .entry)) (now (table .entry)) (now (list .entry)) (now (work .entry)) at rows k r (now (table .exit)) (now (list .exit)) (now (work .exit)) ⌝ }
     ensures { λ r. ⌜ HasRoom limits k r ⌝ }
 {
-    let l = expects::next_token(s, at, format);
+    let l = expects::next_token(s, classes, at, format);
     match l {
         Lexed::Refused(r) => ModuleStep::Refused(r),
         Lexed::Got(t) => {
@@ -204,7 +227,18 @@ fn next_declaration(
                         // "9 declaration list full", nowhere
                         return ModuleStep::Refused(expects::refused_nowhere(9));
                     }
-                    let d = read_declaration(s, table, list, work, t.end, rows, k, limits, format);
+                    let d = read_declaration(
+                        s,
+                        classes,
+                        table,
+                        list,
+                        work,
+                        t.end,
+                        rows,
+                        k,
+                        limits,
+                        format,
+                    );
                     match d {
                         DeclarationRead::Refused(r) => ModuleStep::Refused(r),
                         DeclarationRead::Done { rows: n, next } => ModuleStep::Declared {
@@ -227,6 +261,7 @@ fn next_declaration(
 // Declarations of a format from an offset to their end, into empty tables.
 pub fn read_declarations(
     s: &[u8],
+    classes: &[u8],
     table: &mut [u32],
     list: &mut [u32],
     work: &mut [u32],
@@ -234,13 +269,14 @@ pub fn read_declarations(
     limits: Limits,
     format: Format,
 ) -> DeclarationsRead
+    requires { ⌜ ClassTable (now classes) ⌝ }
     ensures { λ r. ⌜ ReadsDeclarations format limits (now (s .entry)) (now (table .entry)) (now (list .entry)) (now (work .entry)) from r (now (table .exit)) (now (list .exit)) ⌝ }
 {
     let mut at = from;
     let mut rows = 0;
     let mut k = 0;
     loop {
-        let step = next_declaration(s, table, list, work, at, rows, k, limits, format);
+        let step = next_declaration(s, classes, table, list, work, at, rows, k, limits, format);
         match step {
             ModuleStep::Refused(r) => {
                 return DeclarationsRead::Refused(r);
@@ -262,20 +298,22 @@ pub fn read_declarations(
 }
 
 // The port of `parse_module`. Rows and declarations are counted against the limits; what a table has no place for is left out of it.
-pub fn read_within(
+fn read_by(
     s: &[u8],
+    classes: &[u8],
     table: &mut [u32],
     list: &mut [u32],
     work: &mut [u32],
     limits: Limits,
 ) -> ModuleRead
+    requires { ⌜ ClassTable (now classes) ⌝ }
     ensures { λ r. ⌜ (length (now (s .entry)) ≤ 4294967295 → 5632 ≤ length (now (work .entry)) → ReadsWithin limits (read-module (now (s .entry)) (limits .rows) (limits .declarations) 512 start) (now (table .entry)) (now (list .entry)) r (now (table .exit)) (now (list .exit))) ⌝ }
 {
-    let h = expects::read_head(s);
+    let h = expects::read_head(s, classes);
     match h {
         HeadRead::Refused(r) => ModuleRead::Refused(r),
         HeadRead::Name(format, _, next) => {
-            let d = read_declarations(s, table, list, work, next, limits, format);
+            let d = read_declarations(s, classes, table, list, work, next, limits, format);
             match d {
                 DeclarationsRead::Refused(r) => ModuleRead::Refused(r),
                 DeclarationsRead::Done {
@@ -289,6 +327,20 @@ pub fn read_within(
             }
         }
     }
+}
+
+// Here reading begins, and the table of byte classes is made.
+pub fn read_within(
+    s: &[u8],
+    table: &mut [u32],
+    list: &mut [u32],
+    work: &mut [u32],
+    limits: Limits,
+) -> ModuleRead
+    ensures { λ r. ⌜ (length (now (s .entry)) ≤ 4294967295 → 5632 ≤ length (now (work .entry)) → ReadsWithin limits (read-module (now (s .entry)) (limits .rows) (limits .declarations) 512 start) (now (table .entry)) (now (list .entry)) r (now (table .exit)) (now (list .exit))) ⌝ }
+{
+    let classes = token::class_table();
+    read_by(s, &classes, table, list, work, limits)
 }
 
 // The same where the tables say how much there is room for: "words divided by 8, rounded down", "words divided by 5, rounded down".

@@ -1,59 +1,137 @@
--- What `byte-class` gives, from facts about the byte.
+-- What a byte's class number says of its class.
 use Prim.Native.Nat.{ℕ, _≤_, _<_}
 use mathlib.Core.Path.{_≡_, refl, sym, _∙_, ap}
-use mathlib.Core.Bool.{Bool, true, false, _||_, cond, true≢false}
+use mathlib.Core.List.{List}
+use mathlib.Core.Bool.{Bool, true, false, _||_, cond}
 use native.Mathlib.Omega.{arith}
-use native.Mathlib.Decide.{ℕ-discrete}
 use lib.Dec.{eqb}
+use lib.ListN.{getD}
 use borrow.Author.Tests.{ne-eqb, eqb-true}
 use Rattle.token.specs.Token.{byte-class, letter, digit, layout-byte, atom-byte}
+use Rattle.token.specs.Classes.{class-number, class-of, ClassTable}
 use Rattle.token.specs.declared.ByteClass.{ByteClass}
 use Rattle.token.specs.declared.ByteClass.the-variants.{Layout, Comment, LParen, RParen, Atom, Refused}
 
-abbrev pub in-range : ℕ → Bool
-in-range b = letter b || (digit b || false)
+-- The number that a class gives, where the byte begins a name or is a digit.
+abbrev numbered : ByteClass → Bool → Bool → ℕ
+numbered k x y = elim k [ Layout ↦ 0 | Comment ↦ 1 | LParen ↦ 2 | RParen ↦ 3 | Refused ↦ 4 | Atom ↦ cond x 7 (cond y 6 5) ]
 
-abbrev pub Not : ℕ → ℕ → Type 0
-Not b k = b ≡ k → ⊥
+class-of-numbered : (k : ByteClass) (x y : Bool) → class-of (numbered k x y) ≡ k
+unfolding class-of
+class-of-numbered Layout x y = refl
+class-of-numbered Comment x y = refl
+class-of-numbered LParen x y = refl
+class-of-numbered RParen x y = refl
+class-of-numbered Refused x y = refl
+class-of-numbered Atom true y = refl
+class-of-numbered Atom false true = refl
+class-of-numbered Atom false false = refl
 
--- A byte that is none of the single ones.
-pub by-range : (b : ℕ) → Not b 9 → Not b 10 → Not b 13 → Not b 32 → Not b 59 → Not b 40 → Not b 41 → Not b 45 → Not b 95
-    → byte-class b ≡ cond (in-range b) Atom Refused
-unfolding byte-class
-by-range b h9 h10 h13 h32 h59 h40 h41 h45 h95 =
-    simp (ne-eqb b 9 h9, ne-eqb b 10 h10, ne-eqb b 13 h13, ne-eqb b 32 h32, ne-eqb b 59 h59, ne-eqb b 40 h40, ne-eqb b 41 h41, ne-eqb b 45 h45, ne-eqb b 95 h95)
+pub number-class : (b : ℕ) → class-of (class-number b) ≡ byte-class b
+unfolding class-number
+number-class b = class-of-numbered (byte-class b) (letter b || eqb b 95) (digit b)
 
--- `9 | 10` is a range test in the code.
-pub nine-ten : (b : ℕ) → 9 ≤ b → b < 11 → Layout ≡ byte-class b
-unfolding byte-class
-nine-ten b l h = elim (ℕ-discrete b 9) [ yes e ↦ ap byte-class (sym e) | no n ↦ ap byte-class (sym (let q : b ≡ 10 = omega arith in q)) ]
+-- Entry b of the table has the class of byte b.
+pub entry-class : (t : List ℕ) → ClassTable t → (b : ℕ) → b < 256 → class-of (getD t b 0) ≡ byte-class b
+entry-class t table b h = ap class-of (table .entry b h) ∙ number-class b
+
+module _ (b : ℕ) where
+  pub numbered-class : (n : ℕ) → class-number b ≡ n → byte-class b ≡ class-of n
+  numbered-class n e = sym (number-class b) ∙ ap class-of e
+
+  pub layout-class : class-number b ≡ 0 → byte-class b ≡ Layout
+  unfolding class-of
+  layout-class e = numbered-class 0 e
+
+  pub comment-class : class-number b ≡ 1 → byte-class b ≡ Comment
+  unfolding class-of
+  comment-class e = numbered-class 1 e
+
+  pub open-class : class-number b ≡ 2 → byte-class b ≡ LParen
+  unfolding class-of
+  open-class e = numbered-class 2 e
+
+  pub close-class : class-number b ≡ 3 → byte-class b ≡ RParen
+  unfolding class-of
+  close-class e = numbered-class 3 e
+
+  pub refused-class : class-number b ≡ 4 → byte-class b ≡ Refused
+  unfolding class-of
+  refused-class e = numbered-class 4 e
+
+  pub atom-class : 5 ≤ class-number b → byte-class b ≡ Atom
+  unfolding class-of
+  atom-class h =
+      let n = class-number b in
+      sym (number-class b)
+      ∙ simp (ne-eqb n 0 (λ q. omega arith), ne-eqb n 1 (λ q. omega arith), ne-eqb n 2 (λ q. omega arith), ne-eqb n 3 (λ q. omega arith), ne-eqb n 4 (λ q. omega arith))
+
+  -- The number of each class.
+  pub layout-number : byte-class b ≡ Layout → class-number b ≡ 0
+  unfolding class-number
+  layout-number e = rw (e, class-number)
+
+  pub comment-number : byte-class b ≡ Comment → class-number b ≡ 1
+  unfolding class-number
+  comment-number e = rw (e, class-number)
+
+  pub open-number : byte-class b ≡ LParen → class-number b ≡ 2
+  unfolding class-number
+  open-number e = rw (e, class-number)
+
+  pub close-number : byte-class b ≡ RParen → class-number b ≡ 3
+  unfolding class-number
+  close-number e = rw (e, class-number)
+
+  pub refused-number : byte-class b ≡ Refused → class-number b ≡ 4
+  unfolding class-number
+  refused-number e = rw (e, class-number)
+
+  pub atom-number : byte-class b ≡ Atom → 5 ≤ class-number b
+  unfolding class-number
+  atom-number e = rw (e, class-number) (least (letter b || eqb b 95) (digit b))
+    where
+      least : (x y : Bool) → 5 ≤ cond x 7 (cond y 6 5)
+      least true y = omega arith
+      least false true = omega arith
+      least false false = omega arith
+
+-- What the numbers from 6 on say of a name's bytes.
+in-name : (k : ByteClass) (x y : Bool) → 6 ≤ numbered k x y → (x || y) ≡ true
+in-name Layout x y h = absurd (omega arith)
+in-name Comment x y h = absurd (omega arith)
+in-name LParen x y h = absurd (omega arith)
+in-name RParen x y h = absurd (omega arith)
+in-name Refused x y h = absurd (omega arith)
+in-name Atom true y h = refl
+in-name Atom false true h = refl
+in-name Atom false false h = absurd (omega arith)
+
+begins-name : (k : ByteClass) (x y : Bool) → 7 ≤ numbered k x y → x ≡ true
+begins-name Layout x y h = absurd (omega arith)
+begins-name Comment x y h = absurd (omega arith)
+begins-name LParen x y h = absurd (omega arith)
+begins-name RParen x y h = absurd (omega arith)
+begins-name Refused x y h = absurd (omega arith)
+begins-name Atom true y h = refl
+begins-name Atom false true h = absurd (omega arith)
+begins-name Atom false false h = absurd (omega arith)
+
+module _ (b : ℕ) where
+  pub name-byte : 6 ≤ class-number b → ((letter b || eqb b 95) || digit b) ≡ true
+  unfolding class-number
+  name-byte h = in-name (byte-class b) (letter b || eqb b 95) (digit b) h
+
+  pub name-start : 7 ≤ class-number b → (letter b || eqb b 95) ≡ true
+  unfolding class-number
+  name-start h = begins-name (byte-class b) (letter b || eqb b 95) (digit b) h
+
+-- The class of an opening parenthesis is given by one byte.
+abbrev classes : Bool → Bool → Bool → Bool → Bool → ByteClass
+classes l c o p a = cond l Layout (cond c Comment (cond o LParen (cond p RParen (cond a Atom Refused))))
 
 apart : _≡_ {A = ℕ} 0 1 → ⊥
 apart z = omega arith
-
--- An atom byte is none of the single bytes that are told before it.
-pub atom-class : (b : ℕ) → atom-byte b ≡ true → byte-class b ≡ Atom
-unfolding byte-class
-atom-class b e =
-    let other : (k : ℕ) → atom-byte k ≡ false → eqb b k ≡ false = λ k f. ne-eqb b k (λ q. true≢false (sym e ∙ ap atom-byte q ∙ f)) in
-    simp (other 9 refl, other 10 refl, other 13 refl, other 32 refl, other 59 refl, other 40 refl, other 41 refl, e)
-
--- The class Atom is given by the last test.
-atom-last : (l c o p a : Bool) → cond l Layout (cond c Comment (cond o LParen (cond p RParen (cond a Atom Refused)))) ≡ Atom → a ≡ true
-atom-last true c o p a e = cc
-atom-last false true o p a e = cc
-atom-last false false true p a e = cc
-atom-last false false false true a e = cc
-atom-last false false false false true e = refl
-atom-last false false false false false e = cc
-
-pub not-atom-class : (b : ℕ) → atom-byte b ≡ false → byte-class b ≡ Atom → ⊥
-unfolding byte-class
-not-atom-class b f e = true≢false (sym (atom-last (layout-byte b) (eqb b 59) (eqb b 40) (eqb b 41) (atom-byte b) e) ∙ f)
-
--- The classes of the parentheses are given by one byte each.
-abbrev classes : Bool → Bool → Bool → Bool → Bool → ByteClass
-classes l c o p a = cond l Layout (cond c Comment (cond o LParen (cond p RParen (cond a Atom Refused))))
 
 open-third : (l c o p a : Bool) → classes l c o p a ≡ LParen → o ≡ true
 open-third true c o p a e = absurd (apart cc)
@@ -63,50 +141,6 @@ open-third false false false true a e = absurd (apart cc)
 open-third false false false false true e = absurd (apart cc)
 open-third false false false false false e = absurd (apart cc)
 
-close-fourth : (l c o p a : Bool) → classes l c o p a ≡ RParen → p ≡ true
-close-fourth true c o p a e = absurd (apart cc)
-close-fourth false true o p a e = absurd (apart cc)
-close-fourth false false true p a e = absurd (apart cc)
-close-fourth false false false true a e = refl
-close-fourth false false false false true e = absurd (apart cc)
-close-fourth false false false false false e = absurd (apart cc)
-
-module _ (b : ℕ) where
-  pub open-class : b ≡ 40 → byte-class b ≡ LParen
-  unfolding byte-class
-  open-class e = ap byte-class e
-
-  pub close-class : b ≡ 41 → byte-class b ≡ RParen
-  unfolding byte-class
-  close-class e = ap byte-class e
-
-  pub open-byte : byte-class b ≡ LParen → b ≡ 40
-  unfolding byte-class
-  open-byte e = eqb-true b 40 (open-third (layout-byte b) (eqb b 59) (eqb b 40) (eqb b 41) (atom-byte b) e)
-
-  pub not-open-class : Not b 40 → byte-class b ≡ LParen → ⊥
-  not-open-class n e = n (open-byte e)
-
-  pub not-close-class : Not b 41 → byte-class b ≡ RParen → ⊥
-  unfolding byte-class
-  not-close-class n e = n (eqb-true b 41 (close-fourth (layout-byte b) (eqb b 59) (eqb b 40) (eqb b 41) (atom-byte b) e))
-
--- Behind the space, only `;` goes on with layout.
-pub late-class : (b : ℕ) → 32 < b → Not b 59 → (byte-class b ≡ Layout → ⊥) × (byte-class b ≡ Comment → ⊥)
+pub open-byte : (b : ℕ) → byte-class b ≡ LParen → b ≡ 40
 unfolding byte-class
-late-class b h n =
-    let e : byte-class b ≡ cond (eqb b 40) LParen (cond (eqb b 41) RParen (cond (atom-byte b) Atom Refused)) =
-    simp (ne-eqb b 9 (λ q. omega arith), ne-eqb b 10 (λ q. omega arith), ne-eqb b 13 (λ q. omega arith), ne-eqb b 32 (λ q. omega arith), ne-eqb b 59 n) in
-    (λ q. no-layout (eqb b 40) (eqb b 41) (atom-byte b) (sym e ∙ q), λ q. no-comment (eqb b 40) (eqb b 41) (atom-byte b) (sym e ∙ q))
-  where
-    no-layout : (o p a : Bool) → cond o LParen (cond p RParen (cond a Atom Refused)) ≡ Layout → ⊥
-    no-layout true p a q = apart cc
-    no-layout false true a q = apart cc
-    no-layout false false true q = apart cc
-    no-layout false false false q = apart cc
-
-    no-comment : (o p a : Bool) → cond o LParen (cond p RParen (cond a Atom Refused)) ≡ Comment → ⊥
-    no-comment true p a q = apart cc
-    no-comment false true a q = apart cc
-    no-comment false false true q = apart cc
-    no-comment false false false q = apart cc
+open-byte b e = eqb-true b 40 (open-third (layout-byte b) (eqb b 59) (eqb b 40) (eqb b 41) (atom-byte b) e)

@@ -1,7 +1,11 @@
-mod Classes
+pub mod Classes
+pub mod ClassTable
 pub mod Runs
 mod Comments
+pub mod ClassRuns
 pub mod Outcomes
 pub mod Bounds
 pub mod Parentheses
+mod Blocks
 mod CommentBlocks
+mod SpaceBlocks

@@ -11,10 +11,14 @@ unfoldable pub comment-end : ℕ → List ℕ → ℕ
 comment-end at [] = at
 comment-end at (b ∷ l) = elim (eqb b 10) [ true ↦ at | false ↦ comment-end (at + 1) l ]
 
--- Whether a comment goes on over every byte of a list: none is 10.
-unfoldable pub unbroken : List ℕ → Bool
-unbroken [] = true
-unbroken (b ∷ l) = not (eqb b 10) && unbroken l
+-- Whether every byte of a list passes a test.
+unfoldable pub every : (ℕ → Bool) → List ℕ → Bool
+every p [] = true
+every p (b ∷ l) = p b && every p l
+
+-- Whether a comment goes on over a byte.
+abbrev pub no-end : ℕ → Bool
+no-end b = not (eqb b 10)
 
 -- A comment that goes on at `at` ends where one does that goes on at r.
 pub record SameComment (s : List ℕ) (at r : ℕ) : Type 0 where

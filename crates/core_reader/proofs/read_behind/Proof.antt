@@ -36,8 +36,8 @@ returns c =
     let j = c .before in
     let m = j .before .before .before .before .before .before .before .before in
     let d = m .read-declarations in
-    let a = m .before .before .before .before .before .before .before .before .args in
-    declarations-refused (a .s .now) (a .table .now) (a .list .now) (a .work .now) (a .at) (d .result) (d .last .1 .0) (d .last .1 .1 .0) (d .ensures) _ (j .d .given .1)
+    let a = m .before .before .before .before .before .before .before .before .before .args in
+    declarations-refused (a .s .now) (a .table .now) (a .list .now) (a .work .now) (a .at) (d .result) (d .last .1 .1 .0) (d .last .1 .1 .1 .0) (d .ensures) _ (j .d .given .1)
 
 same-length-4 : tie.Need-same-length-4
 same-length-4 c = search needs
@@ -55,8 +55,8 @@ returns-2 c =
     let j = z .before .before .before .before in
     let m = j .before .before .before .before .before .before .before .before in
     let d = m .read-declarations in
-    let a = m .before .before .before .before .before .before .before .before .args in
-    end-refused (a .s .now) (a .table .now) (a .list .now) (a .work .now) (a .at) (d .result) (d .last .1 .0) (d .last .1 .1 .0) (d .ensures) _ _ _ (j .d2 .given .1) (y .result) (y .ensures) _ (z .e .given .1)
+    let a = m .before .before .before .before .before .before .before .before .before .args in
+    end-refused (a .s .now) (a .table .now) (a .list .now) (a .work .now) (a .at) (d .result) (d .last .1 .1 .0) (d .last .1 .1 .1 .0) (d .ensures) _ _ _ (j .d2 .given .1) (y .result) (y .ensures) _ (z .e .given .1)
 
 same-length-7 : tie.Need-same-length-7
 same-length-7 c = search needs
@@ -74,8 +74,8 @@ returns-3 c =
     let j = z .before .before .before .before in
     let m = j .before .before .before .before .before .before .before .before in
     let d = m .read-declarations in
-    let a = m .before .before .before .before .before .before .before .before .args in
-    text-done (a .s .now) (a .table .now) (a .list .now) (a .work .now) (a .at) (d .result) (d .last .1 .0) (d .last .1 .1 .0) (d .ensures) _ _ _ (j .d2 .given .1) (y .result) (y .ensures) _ (z .enum-told .given .1)
+    let a = m .before .before .before .before .before .before .before .before .before .args in
+    text-done (a .s .now) (a .table .now) (a .list .now) (a .work .now) (a .at) (d .result) (d .last .1 .1 .0) (d .last .1 .1 .1 .0) (d .ensures) _ _ _ (j .d2 .given .1) (y .result) (y .ensures) _ (z .enum-told .given .1)
 
 pub read-behind-spec : {M : Type 1} → statement M
 read-behind-spec =

@@ -17,7 +17,7 @@ enum-known-l-2 c = search needs
 begin-tagged-requires : tie.Need-begin-tagged-requires
 begin-tagged-requires c κs =
     let k = c .before in
-    atom-inside (k .before .before .before .before .args .format) _ _ _ (k .before .before .next-atom .ensures) _ (k .l2 .given .1)
+    (atom-inside (k .before .before .before .before .before .args .format) _ _ _ (k .before .before .next-atom .ensures) _ (k .l2 .given .1), k .before .before .before .before .before .pre)
 
 returns : tie.Need-returns
 returns c =

@@ -23,13 +23,13 @@ parse-identifier-requires : tie.Need-parse-identifier-requires
 parse-identifier-requires c κs = search needs
 
 close-leaf-requires : tie.Need-close-leaf-requires
-close-leaf-requires c κs = name-inside (c .before .before .before .before .before .args .format) _ _ (c .parse-identifier .result) (c .parse-identifier .ensures)
+close-leaf-requires c κs = (name-inside (c .before .before .before .before .before .before .args .format) _ _ (c .parse-identifier .result) (c .parse-identifier .ensures), c .before .before .before .before .before .before .pre .1)
 
 parse-natural-requires : tie.Need-parse-natural-requires
 parse-natural-requires c κs = search needs
 
 close-leaf-requires-2 : tie.Need-close-leaf-requires-2
-close-leaf-requires-2 c κs = natural-inside (c .before .before .before .before .before .args .format) _ _ (c .parse-natural .result) (c .parse-natural .ensures)
+close-leaf-requires-2 c κs = (natural-inside (c .before .before .before .before .before .before .args .format) _ _ (c .parse-natural .result) (c .parse-natural .ensures), c .before .before .before .before .before .before .pre .1)
 
 parse-identifier-requires-2 : tie.Need-parse-identifier-requires-2
 parse-identifier-requires-2 c κs = search needs
@@ -44,7 +44,7 @@ label-with-requires : tie.Need-label-with-requires
 label-with-requires c κs =
     let k = c .before in
     let x = k .before .before .parse-identifier2 in
-    inside-got _ _ _ (name-inside (k .before .before .before .before .before .before .before .args .format) _ _ (x .result) (x .ensures)) (k .x2 .given .1) .order
+    inside-got _ _ _ (name-inside (k .before .before .before .before .before .before .before .before .args .format) _ _ (x .result) (x .ensures)) (k .x2 .given .1) .order
 
 label-alone-requires : tie.Need-label-alone-requires
 label-alone-requires c κs = search needs
@@ -78,12 +78,12 @@ returns-4 c =
     let k = c .before .before in
     let x = k .before .before in
     let m = x .before in
-    binder-frame _ _ _ _ _ (m .before .form-of-word .ensures) _ (m .match .keys3) (x .parse-identifier2 .ensures) (bounded (m .before .before .before .before .args .format)) (fitting (m .before .before .before .before .args .format)) _ (k .x2 .given .1) _ (c .label-with .ensures)
+    binder-frame _ _ _ _ _ (m .before .form-of-word .ensures) _ (m .match .keys3) (x .parse-identifier2 .ensures) (bounded (m .before .before .before .before .before .args .format)) (fitting (m .before .before .before .before .before .args .format)) _ (k .x2 .given .1) _ (c .label-with .ensures)
 
 returns-5 : tie.Need-returns-5
 returns-5 c =
     let m = c .before in
-    plain-frame _ _ _ _ _ (m .before .form-of-word .ensures) (fitting (m .before .before .before .before .args .format)) (m .match .keys4) _ (c .label-alone .ensures)
+    plain-frame _ _ _ _ _ (m .before .form-of-word .ensures) (fitting (m .before .before .before .before .before .args .format)) (m .match .keys4) _ (c .label-alone .ensures)
 
 returns-6 : tie.Need-returns-6
 returns-6 c =

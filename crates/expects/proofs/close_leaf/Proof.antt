@@ -24,25 +24,25 @@ enum-known-c-2 c = search needs
 label-with-requires : tie.Need-label-with-requires
 label-with-requires c κs =
     let k = c .before .before .before .before .before in
-    inside-got _ _ _ (k .before .before .before .pre) (k .x2 .given .1) .order
+    inside-got _ _ _ (k .before .before .before .before .pre .0) (k .x2 .given .1) .order
 
 returns : tie.Need-returns
 returns c =
     let k = c .before in
-    leaf-refused (edition (k .before .before .before .args .format)) _ _ _ _ _ (k .x .given .1)
+    leaf-refused (edition (k .before .before .before .before .args .format)) _ _ _ _ _ (k .x .given .1)
 
 returns-2 : tie.Need-returns-2
 returns-2 c =
     let i = c .before in
     let k = i .before .before .before .before in
-    leaf-unclosed (edition (k .before .before .before .args .format)) _ _ _ _ _ (k .x2 .given .1) _ (i .before .before .expect-rparen .ensures) _ (i .c .given .1)
+    leaf-unclosed (edition (k .before .before .before .before .args .format)) _ _ _ _ _ (k .x2 .given .1) _ (i .before .before .expect-rparen .ensures) _ (i .c .given .1)
 
 returns-3 : tie.Need-returns-3
 returns-3 c =
     let i = c .before .before in
     let k = i .before .before .before .before in
-    leaf-got (edition (k .before .before .before .args .format)) _ _ _ _ _ (k .x2 .given .1) _ (i .before .before .expect-rparen .ensures) _ (i .c2 .given .1)
-    (inside-got _ _ _ (k .before .before .before .pre) (k .x2 .given .1)) _ (c .label-with .ensures)
+    leaf-got (edition (k .before .before .before .before .args .format)) _ _ _ _ _ (k .x2 .given .1) _ (i .before .before .expect-rparen .ensures) _ (i .c2 .given .1)
+    (inside-got _ _ _ (k .before .before .before .before .pre .0) (k .x2 .given .1)) _ (c .label-with .ensures)
 
 pub close-leaf-spec : {M : Type 1} → statement M
 close-leaf-spec =

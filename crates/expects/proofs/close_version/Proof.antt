@@ -22,21 +22,21 @@ returns : tie.Need-returns
 unfolding edition-0-1
 returns c =
     let k = c .before .before .before in
-    let a = k .before .before .before .before .args in
+    let a = k .before .before .before .before .before .args in
     version-got _ (a .major) (a .minor) _ (k .before .before .expect-rparen .ensures) _ (k .l2 .given .1) (sym (c .before .is-supported .ensures) ∙ c .if1 .taken)
 
 returns-2 : tie.Need-returns-2
 unfolding edition-0-1
 returns-2 c =
     let k = c .before in
-    let a = k .before .before .before .before .args in
+    let a = k .before .before .before .before .before .args in
     version-refused _ (a .major) (a .minor) _ (k .before .before .expect-rparen .ensures) _ (k .l .given .1)
 
 returns-3 : tie.Need-returns-3
 unfolding edition-0-1
 returns-3 c =
     let k = c .before .before .before in
-    let a = k .before .before .before .before .args in
+    let a = k .before .before .before .before .before .args in
     version-not _ (a .major) (a .minor) _ (k .before .before .expect-rparen .ensures) _ (k .l2 .given .1) (sym (c .before .is-supported .ensures) ∙ c .if1 .left)
 
 pub close-version-spec : {M : Type 1} → statement M

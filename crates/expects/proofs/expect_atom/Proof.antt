@@ -19,19 +19,19 @@ enum-known-l-2 c = search needs
 sub-same-bytes : tie.Need-sub-same-bytes
 sub-same-bytes c =
     let k = c .before in
-    let h = atom-inside (k .before .before .before .before .before .args .format) _ _ _ (k .before .before .next-atom .ensures) _ (k .l2 .given .1) in
+    let h = atom-inside (k .before .before .before .before .before .before .args .format) _ _ _ (k .before .before .next-atom .ensures) _ (k .l2 .given .1) in
     omega arith
 
 part-same-bytes-start : tie.Need-part-same-bytes-start
 part-same-bytes-start c =
     let k = c .before in
-    let h = atom-inside (k .before .before .before .before .before .args .format) _ _ _ (k .before .before .next-atom .ensures) _ (k .l2 .given .1) in
+    let h = atom-inside (k .before .before .before .before .before .before .args .format) _ _ _ (k .before .before .next-atom .ensures) _ (k .l2 .given .1) in
     omega arith
 
 part-same-bytes-end : tie.Need-part-same-bytes-end
 part-same-bytes-end c =
     let k = c .before in
-    let h = atom-inside (k .before .before .before .before .before .args .format) _ _ _ (k .before .before .next-atom .ensures) _ (k .l2 .given .1) in
+    let h = atom-inside (k .before .before .before .before .before .before .args .format) _ _ _ (k .before .before .next-atom .ensures) _ (k .l2 .given .1) in
     omega arith
 
 same-bytes-requires : tie.Need-same-bytes-requires

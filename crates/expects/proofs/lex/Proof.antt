@@ -7,8 +7,8 @@ use Rattle.expects.proofs.lex.Tie as tie
 enum-told : tie.Need-enum-told
 enum-told c = search needs
 
-next-token-requires : tie.Need-next-token-requires
-next-token-requires c κs = search needs
+next-token-by-requires : tie.Need-next-token-by-requires
+next-token-by-requires c κs = search needs
 
 enum-told-2 : tie.Need-enum-told-2
 enum-told-2 c = search needs
@@ -17,7 +17,7 @@ next-core-token-requires : tie.Need-next-core-token-requires
 next-core-token-requires c κs = search needs
 
 returns : tie.Need-returns
-returns c = let k = c .before in lexes _ (k .enum-told .given .1) _ _ _ (c .next-token .ensures)
+returns c = let k = c .before in lexes _ (k .enum-told .given .1) _ _ _ (c .next-token-by .ensures)
 
 returns-2 : tie.Need-returns-2
 returns-2 c = let k = c .before in core-lexes _ (k .enum-told2 .given .1) _ _ _ (c .next-core-token .ensures)
@@ -25,4 +25,4 @@ returns-2 c = let k = c .before in core-lexes _ (k .enum-told2 .given .1) _ _ _ 
 pub lex-spec : {M : Type 1} → statement M
 lex-spec =
     tie.close
-    (tie.spec enum-told next-token-requires enum-told-2 next-core-token-requires returns returns-2)
+    (tie.spec enum-told next-token-by-requires enum-told-2 next-core-token-requires returns returns-2)

@@ -39,14 +39,14 @@ returns : tie.Need-returns
 unfolding edition-0-1
 returns c =
     let k = c .before in
-    module-refused _ (c .before .before .before .before .before .before .args .format) _ _ (k .before .before .expect-tag .ensures) _ (k .l .given .1)
+    module-refused _ (c .before .before .before .before .before .before .before .args .format) _ _ (k .before .before .expect-tag .ensures) _ (k .l .given .1)
 
 returns-2 : tie.Need-returns-2
 unfolding edition-0-1
 returns-2 c =
     let i = c .before in
     let k = i .before .before .before .before in
-    name-refused _ (c .before .before .before .before .before .before .before .before .before .before .args .format) _ _ (k .before .before .expect-tag .ensures) _ (k .l2 .given .1) _ (i .before .before .parse-identifier .ensures) _ (i .m .given .1)
+    name-refused _ (c .before .before .before .before .before .before .before .before .before .before .before .args .format) _ _ (k .before .before .expect-tag .ensures) _ (k .l2 .given .1) _ (i .before .before .parse-identifier .ensures) _ (i .m .given .1)
 
 returns-3 : tie.Need-returns-3
 unfolding edition-0-1
@@ -54,7 +54,7 @@ returns-3 c =
     let j = c .before in
     let i = j .before .before .before .before in
     let k = i .before .before .before .before in
-    close-refused _ (c .before .before .before .before .before .before .before .before .before .before .before .before .before .before .args .format) _ _ (k .before .before .expect-tag .ensures) _ (k .l2 .given .1) _ (i .before .before .parse-identifier .ensures) _ (i .m2 .given .1) _
+    close-refused _ (c .before .before .before .before .before .before .before .before .before .before .before .before .before .before .before .args .format) _ _ (k .before .before .expect-tag .ensures) _ (k .l2 .given .1) _ (i .before .before .parse-identifier .ensures) _ (i .m2 .given .1) _
     (j .before .before .expect-rparen .ensures) _ (j .c .given .1)
 
 returns-4 : tie.Need-returns-4
@@ -63,7 +63,7 @@ returns-4 c =
     let j = c .before in
     let i = j .before .before .before .before in
     let k = i .before .before .before .before in
-    module-got _ (c .before .before .before .before .before .before .before .before .before .before .before .before .before .before .args .format) _ _ (k .before .before .expect-tag .ensures) _ (k .l2 .given .1) _ (i .before .before .parse-identifier .ensures) _ (i .m2 .given .1) _
+    module-got _ (c .before .before .before .before .before .before .before .before .before .before .before .before .before .before .before .args .format) _ _ (k .before .before .expect-tag .ensures) _ (k .l2 .given .1) _ (i .before .before .parse-identifier .ensures) _ (i .m2 .given .1) _
     (j .before .before .expect-rparen .ensures) _ (j .c2 .given .1)
 
 pub module-line-spec : {M : Type 1} → statement M

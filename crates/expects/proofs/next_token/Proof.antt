@@ -11,7 +11,7 @@ open-at-requires : tie.Need-open-at-requires
 open-at-requires c κs = search needs
 
 returns : tie.Need-returns
-returns c = c .open-at .ensures ∙ c .before .behind-space .ensures (c .before .before .before .args .format)
+returns c = c .open-at .ensures ∙ c .before .behind-space .ensures (c .before .before .before .before .args .format)
 
 pub next-token-spec : {M : Type 1} → statement M
 next-token-spec = tie.close (tie.spec behind-space-requires open-at-requires returns)

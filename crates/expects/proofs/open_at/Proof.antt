@@ -11,7 +11,7 @@ add-end : tie.Need-add-end
 add-end c = search needs
 
 returns : tie.Need-returns
-returns c = open-first _ _ (search needs) (c .before .before .before .before .args .format) (c .if2 .taken)
+returns c = open-first _ _ (search needs) (c .before .before .before .before .before .args .format) (c .if2 .taken)
 
 lex-requires : tie.Need-lex-requires
 lex-requires c κs = search needs

@@ -1,103 +1,56 @@
 -- `expects::parse_identifier` meets its contract.
-use mathlib.Core.Path.{sym, _∙_, ap}
+use mathlib.Core.Path.{sym, _∙_}
 use native.Mathlib.Omega.{arith}
-use Rattle.surface.specs.Reader.{refused}
 use Rattle.expects.specs.Formats.{edition}
-use Rattle.expects.proofs.Ahead.{atom-inside}
-use Rattle.expects.proofs.Tokens.{name-tested, name-refused}
+use Rattle.expects.proofs.Identifiers.{identifier-in, name-behind}
 use borrow.Author.Needs.{needs}
+use borrow.Author.Tests.{not-true}
 use Rattle.expects.proofs.parse_identifier.Statement.{statement}
 use Rattle.expects.proofs.parse_identifier.Tie as tie
 
-next-atom-requires : tie.Need-next-atom-requires
-next-atom-requires c κs = search needs
+blank-end-requires : tie.Need-blank-end-requires
+blank-end-requires c κs = search needs
 
-enum-known-l : tie.Need-enum-known-l
-enum-known-l c = search needs
+name-end-requires : tie.Need-name-end-requires
+name-end-requires c κs = search needs
 
-enum-known-l-2 : tie.Need-enum-known-l-2
-enum-known-l-2 c = search needs
+sub-is-reserved : tie.Need-sub-is-reserved
+sub-is-reserved c = search needs
 
-sub-name-test : tie.Need-sub-name-test
-sub-name-test c =
-    let k = c .before in
-    let h = atom-inside (k .before .before .before .before .args .format) _ _ _ (k .before .before .next-atom .ensures) _ (k .l2 .given .1) in
-    omega arith
+part-is-reserved-start : tie.Need-part-is-reserved-start
+part-is-reserved-start c = search needs
 
-part-name-test-start : tie.Need-part-name-test-start
-part-name-test-start c =
-    let k = c .before in
-    let h = atom-inside (k .before .before .before .before .args .format) _ _ _ (k .before .before .next-atom .ensures) _ (k .l2 .given .1) in
-    omega arith
+part-is-reserved-end : tie.Need-part-is-reserved-end
+part-is-reserved-end c = let x = c .before .name-end .ensures (c .if1 .taken) in omega (arith, x .1 .within)
 
-part-name-test-end : tie.Need-part-name-test-end
-part-name-test-end c =
-    let k = c .before in
-    let h = atom-inside (k .before .before .before .before .args .format) _ _ _ (k .before .before .next-atom .ensures) _ (k .l2 .given .1) in
-    omega arith
-
-name-test-requires : tie.Need-name-test-requires
-name-test-requires c κs = search needs
-
-enum-told : tie.Need-enum-told
-enum-told c = search needs
-
-enum-told-2 : tie.Need-enum-told-2
-enum-told-2 c = search needs
-
-refused-at-requires : tie.Need-refused-at-requires
-refused-at-requires c κs = search needs
-
-enum-told-3 : tie.Need-enum-told-3
-enum-told-3 c = search needs
-
-refused-at-requires-2 : tie.Need-refused-at-requires-2
-refused-at-requires-2 c κs = search needs
+is-reserved-requires : tie.Need-is-reserved-requires
+is-reserved-requires c κs = search needs
 
 returns : tie.Need-returns
 returns c =
-    let k = c .before in
-    name-refused (edition (k .before .before .before .before .args .format)) _ _ _ (k .before .before .next-atom .ensures) _ (k .l .given .1)
+    let g = c .before .before .before in
+    let b = g .before .before in
+    let x = g .before .name-end .ensures (g .if1 .taken) in
+    identifier-in (b .before .before .before .args .format) _ _ _ _ (b .blank-end .ensures) (g .if1 .taken) (x .0) (x .1) (sym (c .before .is-reserved .ensures) ∙ not-true _ (c .if2 .taken))
+
+tested-identifier-requires : tie.Need-tested-identifier-requires
+tested-identifier-requires c κs = search needs
 
 returns-2 : tie.Need-returns-2
 returns-2 c =
-    let g = c .before .before in
-    let k = g .before .before .before in
-    name-tested (edition (k .before .before .before .before .args .format)) _ _ _ (k .before .before .next-atom .ensures) _ (k .l2 .given .1) _ (sym (g .name-test .ensures) ∙ c .enum-told .given .1)
-
-returns-3 : tie.Need-returns-3
-returns-3 c =
-    λ n.
-    let g = c .before .before .before in
-    let k = g .before .before .before in
-    name-tested (edition (k .before .before .before .before .args .format)) _ _ _ (k .before .before .next-atom .ensures) _ (k .l2 .given .1) _ (sym (g .name-test .ensures) ∙ c .before .enum-told2 .given .1) n
-    ∙ ap refused (sym (c .refused-at .ensures))
-
-returns-4 : tie.Need-returns-4
-returns-4 c =
-    λ n.
-    let g = c .before .before .before in
-    let k = g .before .before .before in
-    name-tested (edition (k .before .before .before .before .args .format)) _ _ _ (k .before .before .next-atom .ensures) _ (k .l2 .given .1) _ (sym (g .name-test .ensures) ∙ c .before .enum-told3 .given .1) n
-    ∙ ap refused (sym (c .refused-at2 .ensures))
+    let b = c .before .before .before in
+    name-behind (edition (b .before .before .before .args .format)) _ _ _ (b .blank-end .ensures) (c .tested-identifier .result) (c .tested-identifier .ensures)
 
 pub parse-identifier-spec : {M : Type 1} → statement M
 parse-identifier-spec =
     tie.close
     (tie.spec
-    next-atom-requires
-    enum-known-l
-    enum-known-l-2
-    sub-name-test
-    part-name-test-start
-    part-name-test-end
-    name-test-requires
-    enum-told
-    enum-told-2
-    refused-at-requires
-    enum-told-3
-    refused-at-requires-2
+    blank-end-requires
+    name-end-requires
+    sub-is-reserved
+    part-is-reserved-start
+    part-is-reserved-end
+    is-reserved-requires
     returns
-    returns-2
-    returns-3
-    returns-4)
+    tested-identifier-requires
+    returns-2)

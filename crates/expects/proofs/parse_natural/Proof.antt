@@ -19,19 +19,19 @@ enum-known-l-2 c = search needs
 sub-is-numeral : tie.Need-sub-is-numeral
 sub-is-numeral c =
     let k = c .before in
-    let h = atom-inside (k .before .before .before .before .args .format) _ _ _ (k .before .before .next-atom .ensures) _ (k .l2 .given .1) in
+    let h = atom-inside (k .before .before .before .before .before .args .format) _ _ _ (k .before .before .next-atom .ensures) _ (k .l2 .given .1) in
     omega arith
 
 part-is-numeral-start : tie.Need-part-is-numeral-start
 part-is-numeral-start c =
     let k = c .before in
-    let h = atom-inside (k .before .before .before .before .args .format) _ _ _ (k .before .before .next-atom .ensures) _ (k .l2 .given .1) in
+    let h = atom-inside (k .before .before .before .before .before .args .format) _ _ _ (k .before .before .next-atom .ensures) _ (k .l2 .given .1) in
     omega arith
 
 part-is-numeral-end : tie.Need-part-is-numeral-end
 part-is-numeral-end c =
     let k = c .before in
-    let h = atom-inside (k .before .before .before .before .args .format) _ _ _ (k .before .before .next-atom .ensures) _ (k .l2 .given .1) in
+    let h = atom-inside (k .before .before .before .before .before .args .format) _ _ _ (k .before .before .next-atom .ensures) _ (k .l2 .given .1) in
     omega arith
 
 is-numeral-requires : tie.Need-is-numeral-requires

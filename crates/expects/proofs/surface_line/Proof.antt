@@ -42,9 +42,10 @@ close-version-requires c κs =
     let j = c .before in
     let i = j .before .before .before .before in
     let a = i .before .before .parse-natural in
-    let b = j .before .before .parse-natural2 in (
+    let b = j .before .before .parse-natural2 in
+    let k = i .before .before .before .before in (
       inside-got _ _ _ (natural-inside Format.Surface01 _ _ (a .result) (a .ensures)) (i .m2 .given .1),
-      inside-got _ _ _ (natural-inside Format.Surface01 _ _ (b .result) (b .ensures)) (j .n2 .given .1),
+      (inside-got _ _ _ (natural-inside Format.Surface01 _ _ (b .result) (b .ensures)) (j .n2 .given .1), k .before .before .before .before .before .before .pre),
     )
 
 returns : tie.Need-returns

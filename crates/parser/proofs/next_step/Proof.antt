@@ -8,7 +8,7 @@ value-step-requires : tie.Need-value-step-requires
 value-step-requires c κs =
     let o = c .before .before .before .before .before .before in
     let h = c .before .before .if1 .taken in
-    (o .pre .0, (h, frame-open (o .args .st) h (o .pre .1)))
+    (o .before .pre .0, (h, (frame-open (o .before .args .st) h (o .before .pre .1 .0), o .before .pre .1 .1)))
 
 same-length : tie.Need-same-length
 same-length c = search needs

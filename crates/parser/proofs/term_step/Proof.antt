@@ -29,8 +29,8 @@ enum-known-begun-3 c = search needs
 open-frame-requires : tie.Need-open-frame-requires
 open-frame-requires c κs = search needs
 
-add-t25 : tie.Need-add-t25
-add-t25 c = search needs
+add-t26 : tie.Need-add-t26
+add-t26 c = search needs
 
 same-length : tie.Need-same-length
 same-length c = search needs
@@ -39,7 +39,7 @@ returns : tie.Need-returns
 returns c =
     let o = c .before .before .before .before .before .before .before .before .before .before .before .before in
     let k = c .before .before .open-frame in
-    open-step (o .args .s .now) _ (setting-sound (o .args .format) (o .args .s .now) (o .args .limit)) (o .args .table .now) (o .args .work .now) (o .args .st) (o .pre .0) _ (o .pre .1) (c .before .before .before .before .before .before .before .before .begin-term .ensures (o .pre .0 .source)) _ _ _
+    open-step (o .before .args .s .now) _ (setting-sound (o .before .args .format) (o .before .args .s .now) (o .before .args .limit)) (o .before .args .table .now) (o .before .args .work .now) (o .before .args .st) (o .before .pre .0) _ (o .before .pre .1 .0) (c .before .before .before .before .before .before .before .before .begin-term .ensures (o .before .pre .0 .source)) _ _ _
     (c .before .before .before .before .before .before .begun3 .given .1) (c .before .before .before .before .if1 .taken) (k .ensures) (k .kept .0)
 
 refused-nowhere-requires : tie.Need-refused-nowhere-requires
@@ -48,7 +48,7 @@ refused-nowhere-requires c κs = search needs
 returns-2 : tie.Need-returns-2
 returns-2 c =
     let o = c .before .before .before .before .before .before .before in
-    refused-step (o .args .s .now) _ (setting-sound (o .args .format) (o .args .s .now) (o .args .limit)) (o .args .table .now) (o .args .work .now) (o .args .st) (o .pre .0) _ (o .pre .1) (c .before .before .before .begin-term .ensures (o .pre .0 .source)) _ (c .before .begun .given .1)
+    refused-step (o .before .args .s .now) _ (setting-sound (o .before .args .format) (o .before .args .s .now) (o .before .args .limit)) (o .before .args .table .now) (o .before .args .work .now) (o .before .args .st) (o .before .pre .0) _ (o .before .pre .1 .0) (c .before .before .before .begin-term .ensures (o .before .pre .0 .source)) _ (c .before .begun .given .1)
 
 same-length-2 : tie.Need-same-length-2
 same-length-2 c = search needs
@@ -57,13 +57,13 @@ returns-3 : tie.Need-returns-3
 returns-3 c =
     let o = c .before .before .before .before .before .before .before .before .before .before .before .before in
     let k = c .before .before .push-term in
-    leaf-step (o .args .s .now) _ (setting-sound (o .args .format) (o .args .s .now) (o .args .limit)) (o .args .table .now) (o .args .work .now) (o .args .st) (o .pre .0) _ (o .pre .1) (c .before .before .before .before .before .before .before .before .begin-term .ensures (o .pre .0 .source)) _ _ _ _
-    (c .before .before .before .before .before .before .begun2 .given .1) (k .ensures .0) (k .ensures .1 ∙ ap (pushed-row (o .args .limit) (o .args .table .now) (o .args .st .rows)) (c .before .before .before .before .term-row .ensures))
+    leaf-step (o .before .args .s .now) _ (setting-sound (o .before .args .format) (o .before .args .s .now) (o .before .args .limit)) (o .before .args .table .now) (o .before .args .work .now) (o .before .args .st) (o .before .pre .0) _ (o .before .pre .1 .0) (c .before .before .before .before .before .before .before .before .begin-term .ensures (o .before .pre .0 .source)) _ _ _ _
+    (c .before .before .before .before .before .before .begun2 .given .1) (k .ensures .0) (k .ensures .1 ∙ ap (pushed-row (o .before .args .limit) (o .before .args .table .now) (o .before .args .st .rows)) (c .before .before .before .before .term-row .ensures))
 
 returns-4 : tie.Need-returns-4
 returns-4 c =
     let o = c .before .before .before .before .before .before .before .before .before in
-    deep-step (o .args .s .now) _ (setting-sound (o .args .format) (o .args .s .now) (o .args .limit)) (o .args .table .now) (o .args .work .now) (o .args .st) (o .pre .0) _ (o .pre .1) (c .before .before .before .before .before .begin-term .ensures (o .pre .0 .source)) _ _
+    deep-step (o .before .args .s .now) _ (setting-sound (o .before .args .format) (o .before .args .s .now) (o .before .args .limit)) (o .before .args .table .now) (o .before .args .work .now) (o .before .args .st) (o .before .pre .0) _ (o .before .pre .1 .0) (c .before .before .before .before .before .begin-term .ensures (o .before .pre .0 .source)) _ _
     (c .before .before .before .begun3 .given .1) (c .before .if1 .left) ∙ ap refused (sym (c .refused-nowhere .ensures))
 
 pub term-step-spec : {M : Type 1} → statement M
@@ -77,7 +77,7 @@ term-step-spec =
     push-term-requires
     enum-known-begun-3
     open-frame-requires
-    add-t25
+    add-t26
     same-length
     returns
     refused-nowhere-requires

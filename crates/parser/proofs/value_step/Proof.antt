@@ -16,10 +16,10 @@ sub-d c = search needs
 push-arg-requires : tie.Need-push-arg-requires
 push-arg-requires c κs =
     let o = c .before .before .before .before in
-    let a = o .args in
+    let a = o .before .args in
     let d = a .st .depth - 1 in
-    let deep : a .st .depth ≡ suc d = omega (arith, o .pre .1 .1) in
-    (room (a .s .now) _ (setting-sound (a .format) (a .s .now) (a .limit)) (a .table .now) (a .work .now) (a .st) (o .pre .0) d (o .pre .1 .0) deep, takes (a .s .now) _ (setting-sound (a .format) (a .s .now) (a .limit)) (a .table .now) (a .work .now) (a .st) (o .pre .0) d (o .pre .1 .0) deep)
+    let deep : a .st .depth ≡ suc d = omega (arith, o .before .pre .1 .1 .0) in
+    (room (a .s .now) _ (setting-sound (a .format) (a .s .now) (a .limit)) (a .table .now) (a .work .now) (a .st) (o .before .pre .0) d (o .before .pre .1 .0) deep, takes (a .s .now) _ (setting-sound (a .format) (a .s .now) (a .limit)) (a .table .now) (a .work .now) (a .st) (o .before .pre .0) d (o .before .pre .1 .0) deep)
 
 frame-len-requires : tie.Need-frame-len-requires
 frame-len-requires c κs = search needs
@@ -37,12 +37,12 @@ returns : tie.Need-returns
 returns c =
     let y = c .before in
     let o = y .before .before .before .before .before .before .before .before .before .before .before .before in
-    let a = o .args in
+    let a = o .before .args in
     let k = y .before .before .before .before .before .before .before .push-arg in
     let d = a .st .depth - 1 in
-    let deep : a .st .depth ≡ suc d = omega (arith, o .pre .1 .1) in
+    let deep : a .st .depth ≡ suc d = omega (arith, o .before .pre .1 .1 .0) in
     let kinds = y .arity .ensures ∙ ap arity-of (y .before .frame-kind .ensures) in
-    more-step (a .s .now) _ (setting-sound (a .format) (a .s .now) (a .limit)) (a .table .now) (a .work .now) (a .st) (o .pre .0) d (o .pre .1 .0) deep _ (k .ensures) (omega (arith, y .before .before .before .frame-len .ensures, kinds, c .if1 .taken)) (k .kept .0)
+    more-step (a .s .now) _ (setting-sound (a .format) (a .s .now) (a .limit)) (a .table .now) (a .work .now) (a .st) (o .before .pre .0) d (o .before .pre .1 .0) deep _ (k .ensures) (omega (arith, y .before .before .before .frame-len .ensures, kinds, c .if1 .taken)) (k .kept .0)
 
 expect-rparen-requires : tie.Need-expect-rparen-requires
 expect-rparen-requires c κs = search needs
@@ -61,7 +61,7 @@ term-row-requires c κs = search needs
 
 push-term-requires : tie.Need-push-term-requires
 push-term-requires c κs =
-    let i = c .before .before .before .before .before .before .before .before .before .before .before .before .before .before .before .before .before .before .before .before .before .before .before .pre .0 in
+    let i = c .before .before .before .before .before .before .before .before .before .before .before .before .before .before .before .before .before .before .before .before .before .before .before .before .pre .0 in
     omega (arith, i .rows, i .at, i .source)
 
 same-length-2 : tie.Need-same-length-2
@@ -71,12 +71,12 @@ returns-2 : tie.Need-returns-2
 returns-2 c =
     let y = c .before .before .before .before .before in
     let o = y .before .before .before .before .before .before .before .before .before .before .before .before in
-    let a = o .args in
+    let a = o .before .args in
     let k = y .before .before .before .before .before .before .before .push-arg in
     let d = a .st .depth - 1 in
-    let deep : a .st .depth ≡ suc d = omega (arith, o .pre .1 .1) in
+    let deep : a .st .depth ≡ suc d = omega (arith, o .before .pre .1 .1 .0) in
     let kinds = y .arity .ensures ∙ ap arity-of (y .before .frame-kind .ensures) in
-    unclosed-step (a .s .now) _ (setting-sound (a .format) (a .s .now) (a .limit)) (a .table .now) (a .work .now) (a .st) (o .pre .0) d (o .pre .1 .0) deep _ (k .ensures) (omega (arith, y .before .before .before .frame-len .ensures, kinds, c .before .before .before .before .if1 .left)) _ (c .before .before .before .expect-rparen .ensures) _ (c .before .close .given .1)
+    unclosed-step (a .s .now) _ (setting-sound (a .format) (a .s .now) (a .limit)) (a .table .now) (a .work .now) (a .st) (o .before .pre .0) d (o .before .pre .1 .0) deep _ (k .ensures) (omega (arith, y .before .before .before .frame-len .ensures, kinds, c .before .before .before .before .if1 .left)) _ (c .before .before .before .expect-rparen .ensures) _ (c .before .close .given .1)
 
 same-length-3 : tie.Need-same-length-3
 same-length-3 c = search needs
@@ -88,13 +88,13 @@ returns-3 : tie.Need-returns-3
 returns-3 c =
     let y = c .before .before .before .before .before .before .before .before .before .before .before .before .before .before in
     let o = y .before .before .before .before .before .before .before .before .before .before .before .before in
-    let a = o .args in
+    let a = o .before .args in
     let k = y .before .before .before .before .before .before .before .push-arg in
     let d = a .st .depth - 1 in
-    let deep : a .st .depth ≡ suc d = omega (arith, o .pre .1 .1) in
+    let deep : a .st .depth ≡ suc d = omega (arith, o .before .pre .1 .1 .0) in
     let kinds = y .arity .ensures ∙ ap arity-of (y .before .frame-kind .ensures) in
     let p = c .before .before .push-term in
-    close-step (a .s .now) _ (setting-sound (a .format) (a .s .now) (a .limit)) (a .table .now) (a .work .now) (a .st) (o .pre .0) d (o .pre .1 .0) deep _ (k .ensures) (omega (arith, y .before .before .before .frame-len .ensures, kinds, c .before .before .before .before .before .before .before .before .before .before .before .before .before .if1 .left)) _ (c .before .before .before .before .before .before .before .before .before .before .before .before .expect-rparen .ensures) _ _ _ _
+    close-step (a .s .now) _ (setting-sound (a .format) (a .s .now) (a .limit)) (a .table .now) (a .work .now) (a .st) (o .before .pre .0) d (o .before .pre .1 .0) deep _ (k .ensures) (omega (arith, y .before .before .before .frame-len .ensures, kinds, c .before .before .before .before .before .before .before .before .before .before .before .before .before .if1 .left)) _ (c .before .before .before .before .before .before .before .before .before .before .before .before .expect-rparen .ensures) _ _ _ _
     (c .before .before .before .before .before .before .before .before .before .before .close2 .given .1) (c .before .before .before .before .before .before .before .load-frame .ensures) (k .kept .0) (p .ensures .0)
     (p .ensures .1 ∙ ap (pushed-row (a .limit) (a .table .now) (a .st .rows)) (c .before .before .before .before .term-row .ensures))
 

@@ -29,7 +29,7 @@ returns c =
     let f = c .before in
     let x = f .before .before .before .before .before in
     let i = x .before .before in
-    let a = i .before .before .before .before .before .args in (
+    let a = i .before .before .before .before .before .before .args in (
       λ w few. next-full (a .format) (a .s .now) (a .limits .rows) (a .at) (a .rows) (a .limits .declarations - a .k) (i .next-token .result) (i .next-token .ensures)
           (x .l2 .given .0 .0) (x .l2 .given .1) (f .before .before .enum-told .given .1) (omega arith) _ (c .refused-nowhere .ensures),
       tt,
@@ -52,7 +52,7 @@ returns-2 c =
     let g = c .before in
     let x = g .before .before .before in
     let i = x .before .before in
-    let a = i .before .before .before .before .before .args in (
+    let a = i .before .before .before .before .before .before .args in (
       λ w few. ends-here (a .format) (a .limits) (a .s .now) (a .table .now) (a .list .now) (a .at) (a .rows) (a .k) (i .next-token .result) (i .next-token .ensures)
           (x .l2 .given .0 .0) (x .l2 .given .1) (λ q. miss (1 ∷ 2 ∷ 3 ∷ 4 ∷ []) 0 tt (rw q at (g .before .match2 .keys2))) (sym (g .is-ending .ensures) ∙ c .if2 .taken),
       tt,
@@ -65,7 +65,7 @@ returns-3 : tie.Need-returns-3
 returns-3 c =
     let x = c .before in
     let i = x .before .before in
-    let a = i .before .before .before .before .before .args in
+    let a = i .before .before .before .before .before .before .args in
     (λ w few. next-refused (a .format) (a .s .now) (a .limits .rows) (a .at) (a .rows) (a .limits .declarations - a .k) (i .next-token .result) (i .next-token .ensures) _ (x .l .given .1), tt)
 
 same-length : tie.Need-same-length
@@ -84,11 +84,11 @@ returns-4 c =
     let f = d .before .before .before .before in
     let x = f .before .before .before .before .before in
     let i = x .before .before in
-    let a = i .before .before .before .before .before .args in (
-      λ w few. declaration-stops (a .format) (a .limits) (a .s .now) (a .table .now) (a .list .now) (a .at) (a .rows) (a .k) (a .work .now) (d .read-declaration .last .1 .1 .1 .0) w (omega arith)
+    let a = i .before .before .before .before .before .before .args in (
+      λ w few. declaration-stops (a .format) (a .limits) (a .s .now) (a .table .now) (a .list .now) (a .at) (a .rows) (a .k) (a .work .now) (d .read-declaration .last .1 .1 .1 .1 .0) w (omega arith)
           (i .next-token .result) (i .next-token .ensures) (x .l2 .given .0 .0) (x .l2 .given .1) (f .before .before .enum-told .given .1)
-          (d .read-declaration .result) (d .read-declaration .last .1 .0) (d .read-declaration .last .1 .1 .0)
-          (d .read-declaration .kept .1 .0) (d .read-declaration .kept .1 .1 .0) (d .read-declaration .kept .1 .1 .1 .0)
+          (d .read-declaration .result) (d .read-declaration .last .1 .1 .0) (d .read-declaration .last .1 .1 .1 .0)
+          (d .read-declaration .kept .1 .1 .0) (d .read-declaration .kept .1 .1 .1 .0) (d .read-declaration .kept .1 .1 .1 .1 .0)
           (d .read-declaration .ensures) _ (y .d .given .1),
       tt,
     )
@@ -109,11 +109,11 @@ returns-5 c =
     let f = d .before .before .before .before in
     let x = f .before .before .before .before .before in
     let i = x .before .before in
-    let a = i .before .before .before .before .before .args in (
-      λ w few. went (a .format) (a .limits) (a .s .now) (a .table .now) (a .list .now) (a .at) (a .rows) (a .k) (a .work .now) (d .read-declaration .last .1 .1 .1 .0) w (omega arith)
+    let a = i .before .before .before .before .before .before .args in (
+      λ w few. went (a .format) (a .limits) (a .s .now) (a .table .now) (a .list .now) (a .at) (a .rows) (a .k) (a .work .now) (d .read-declaration .last .1 .1 .1 .1 .0) w (omega arith)
           (i .next-token .result) (i .next-token .ensures) (x .l2 .given .0 .0) (x .l2 .given .1) (f .before .before .enum-told .given .1)
-          (d .read-declaration .result) (d .read-declaration .last .1 .0) (d .read-declaration .last .1 .1 .0)
-          (d .read-declaration .kept .1 .0) (d .read-declaration .kept .1 .1 .0) (d .read-declaration .kept .1 .1 .1 .0)
+          (d .read-declaration .result) (d .read-declaration .last .1 .1 .0) (d .read-declaration .last .1 .1 .1 .0)
+          (d .read-declaration .kept .1 .1 .0) (d .read-declaration .kept .1 .1 .1 .0) (d .read-declaration .kept .1 .1 .1 .1 .0)
           (d .read-declaration .ensures) _ _ (y .d2 .given .1),
       omega arith,
     )
@@ -124,7 +124,7 @@ returns-6 c =
     let g = f .before in
     let x = g .before .before .before in
     let i = x .before .before in
-    let a = i .before .before .before .before .before .args in (
+    let a = i .before .before .before .before .before .before .args in (
       λ w few. next-other (a .format) (a .s .now) (a .limits .rows) (a .at) (a .rows) (a .limits .declarations - a .k) (i .next-token .result) (i .next-token .ensures)
           (x .l2 .given .0 .0) (x .l2 .given .1) (λ q. miss (1 ∷ 2 ∷ 3 ∷ 4 ∷ []) 0 tt (rw q at (g .before .match2 .keys2))) (sym (g .is-ending .ensures) ∙ f .if2 .left) _ (c .refused-at .ensures),
       tt,

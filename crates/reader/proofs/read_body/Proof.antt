@@ -8,7 +8,7 @@ use Rattle.reader.proofs.read_body.Tie as tie
 
 returns : tie.Need-returns
 returns c =
-    let a = c .before .before .before .before .args in
+    let a = c .before .before .before .before .before .args in
     λ i j e.
     no-body (a .format) (a .limits .rows) (a .s .now) (a .table .now) (a .at) (a .rows) (i .stored) _ _ j (omega arith) refl refl
 
@@ -25,9 +25,9 @@ returns-2 : tie.Need-returns-2
 returns-2 c =
     let k = c .before .before .before .before in
     let f = k .before .before .before in
-    let a = f .before .before .before .before .args in
+    let a = f .before .before .before .before .before .args in
     λ i j e.
-    some-body (a .format) (a .limits .rows) (a .s .now) (a .table .now) (a .at) (a .rows) (i .stored) (k .read-term .result) (k .read-term .last .1 .0) j (λ z. f .if1 .left (omega arith))
+    some-body (a .format) (a .limits .rows) (a .s .now) (a .table .now) (a .at) (a .rows) (i .stored) (k .read-term .result) (k .read-term .last .1 .1 .0) j (λ z. f .if1 .left (omega arith))
     (k .read-term .ensures (term-inside (a .limits .rows) (a .s .now) (a .work .now) (a .at) (a .rows) i))
 
 pub read-body-spec : {M : Type 1} → statement M

@@ -19,21 +19,21 @@ enum-known-l-2 c = search needs
 sub-declaration-kind : tie.Need-sub-declaration-kind
 sub-declaration-kind c =
     let x = c .before in
-    let a = x .before .before .before .before .before .before .before .args in
+    let a = x .before .before .before .before .before .before .before .before .args in
     let h = atom-inside (a .format) (a .s .now) (a .at) _ (x .before .before .next-atom .ensures) _ (x .l2 .given .1) in
     omega arith
 
 part-declaration-kind-start : tie.Need-part-declaration-kind-start
 part-declaration-kind-start c =
     let x = c .before in
-    let a = x .before .before .before .before .before .before .before .args in
+    let a = x .before .before .before .before .before .before .before .before .args in
     let h = atom-inside (a .format) (a .s .now) (a .at) _ (x .before .before .next-atom .ensures) _ (x .l2 .given .1) in
     omega arith
 
 part-declaration-kind-end : tie.Need-part-declaration-kind-end
 part-declaration-kind-end c =
     let x = c .before in
-    let a = x .before .before .before .before .before .before .before .args in
+    let a = x .before .before .before .before .before .before .before .before .args in
     let h = atom-inside (a .format) (a .s .now) (a .at) _ (x .before .before .next-atom .ensures) _ (x .l2 .given .1) in
     omega arith
 
@@ -48,7 +48,7 @@ returns c =
     let d = c .before .before in
     let x = d .before .before .before in
     let i = x .before .before in
-    let a = i .before .before .before .before .before .args in
+    let a = i .before .before .before .before .before .before .args in
     λ w room.
     stops (a .format) _ _ _ _ _ _ _ _ _
     (other-word (a .format) (a .s .now) _ (a .at) (a .rows) (i .next-atom .result) (i .next-atom .ensures) (x .l2 .given .0 .0) (x .l2 .given .1)
@@ -61,7 +61,7 @@ returns-2 : tie.Need-returns-2
 returns-2 c =
     let x = c .before in
     let i = x .before .before in
-    let a = i .before .before .before .before .before .args in
+    let a = i .before .before .before .before .before .before .args in
     λ w room.
     stops (a .format) _ _ _ _ _ _ _ _ _ (word-refused (a .format) (a .s .now) _ (a .at) (a .rows) (i .next-atom .result) (i .next-atom .ensures) _ (x .l .given .1))
 
@@ -81,11 +81,11 @@ returns-3 c =
     let d = f .before in
     let x = d .before .before .before in
     let i = x .before .before in
-    let a = i .before .before .before .before .before .args in
+    let a = i .before .before .before .before .before .before .args in
     λ w room.
     word-got (a .format) (a .s .now) _ (a .at) (a .rows) (i .next-atom .result) (i .next-atom .ensures) (x .l2 .given .0 .0) (x .l2 .given .1)
     (d .declaration-kind .result) (d .declaration-kind .ensures) (f .if1 .left) (a .limits) (a .k) (a .table .now) (a .list .now) (g .read-named .result)
-    (g .read-named .last .1 .0) (g .read-named .last .1 .1 .0)
+    (g .read-named .last .1 .1 .0) (g .read-named .last .1 .1 .1 .0)
     (g .read-named .ensures
     (behind-word (a .format) (a .limits .rows) (a .s .now) (a .work .now) (a .at) (a .rows) (i .next-atom .result) (i .next-atom .ensures) (x .l2 .given .0 .0)
     (x .l2 .given .1) w) room)

@@ -36,16 +36,20 @@ declaration-record-requires : tie.Need-declaration-record-requires
 declaration-record-requires c κs =
     let x = c .before .before .before .before .before .before .before .before .before .before .before .before .before .before .before .before .before .before .before .before .before in
     let i = x .before .before in
-    name-order (i .before .before .before .before .before .args .format) _ _ (i .parse-name .result) (i .parse-name .ensures) _ _ (x .x2 .given .1)
+    name-order (i .before .before .before .before .before .before .args .format) _ _ (i .parse-name .result) (i .parse-name .ensures) _ _ (x .x2 .given .1)
 
 finish-declaration-requires : tie.Need-finish-declaration-requires
-finish-declaration-requires c κs = search needs
+finish-declaration-requires c κs =
+    let z = c .before .before .before in
+    let y = z .before .before .before .before .before .before .before .before .before .before in
+    let x = y .before .before .before .before .before .before .before .before .before .before in
+    x .before .before .before .before .before .before .before .before .pre
 
 returns : tie.Need-returns
 returns c =
     let x = c .before in
     let i = x .before .before in
-    let a = i .before .before .before .before .before .args in
+    let a = i .before .before .before .before .before .before .args in
     λ w room t j is.
     stops (a .format) _ _ _ _ _ _ _ _ _ (name-refused (a .format) (a .s .now) _ t j (a .at) (a .rows) (i .parse-name .result) (i .parse-name .ensures) _ (x .x .given .1))
 
@@ -61,11 +65,11 @@ returns-2 c =
     let g = y .before .before .before .before .before .before in
     let x = g .before .before .before .before in
     let i = x .before .before in
-    let a = i .before .before .before .before .before .args in
+    let a = i .before .before .before .before .before .before .args in
     λ w room t j is.
     type-stops (a .format) (a .limits) (a .s .now) (a .table .now) (a .list .now) (a .work .now) (a .at) (a .rows) (a .k) t j (a .kind) w room is
     (i .parse-name .result) (i .parse-name .ensures) _ _ (x .x2 .given .1)
-    (g .read-term .result) (g .read-term .last .1 .0) (g .read-term .last .1 .1 .0) (g .read-term .kept .1 .0) (g .read-term .kept .1 .1 .0) (g .read-term .ensures)
+    (g .read-term .result) (g .read-term .last .1 .1 .0) (g .read-term .last .1 .1 .1 .0) (g .read-term .kept .1 .1 .0) (g .read-term .kept .1 .1 .1 .0) (g .read-term .ensures)
     _ (y .ty .given .1) _
 
 same-length-3 : tie.Need-same-length-3
@@ -82,12 +86,12 @@ returns-3 c =
     let g = y .before .before .before .before .before .before in
     let x = g .before .before .before .before in
     let i = x .before .before in
-    let a = i .before .before .before .before .before .args in
+    let a = i .before .before .before .before .before .before .args in
     λ w room t j is.
     body-stops (a .format) (a .limits) (a .s .now) (a .table .now) (a .list .now) (a .work .now) (a .at) (a .rows) (a .k) t j (a .kind) w room is
     (i .parse-name .result) (i .parse-name .ensures) _ _ (x .x2 .given .1)
-    (g .read-term .result) (g .read-term .last .1 .0) (g .read-term .last .1 .1 .0) (g .read-term .kept .1 .0) (g .read-term .kept .1 .1 .0) (g .read-term .ensures)
-    _ _ _ (y .ty2 .given .1) (f .read-body .result) (f .read-body .last .1 .0) (f .read-body .ensures) _ (z .body .given .1) _
+    (g .read-term .result) (g .read-term .last .1 .1 .0) (g .read-term .last .1 .1 .1 .0) (g .read-term .kept .1 .1 .0) (g .read-term .kept .1 .1 .1 .0) (g .read-term .ensures)
+    _ _ _ (y .ty2 .given .1) (f .read-body .result) (f .read-body .last .1 .1 .0) (f .read-body .ensures) _ (z .body .given .1) _
 
 same-length-5 : tie.Need-same-length-5
 same-length-5 c = search needs
@@ -108,12 +112,12 @@ returns-4 c =
     let g = y .before .before .before .before .before .before in
     let x = g .before .before .before .before in
     let i = x .before .before in
-    let a = i .before .before .before .before .before .args in
+    let a = i .before .before .before .before .before .before .args in
     λ w room t j is.
     ends (a .format) (a .limits) (a .s .now) (a .table .now) (a .list .now) (a .work .now) (a .at) (a .rows) (a .k) t j (a .kind) w room is
     (i .parse-name .result) (i .parse-name .ensures) _ _ (x .x2 .given .1)
-    (g .read-term .result) (g .read-term .last .1 .0) (g .read-term .last .1 .1 .0) (g .read-term .kept .1 .0) (g .read-term .kept .1 .1 .0) (g .read-term .ensures)
-    _ _ _ (y .ty2 .given .1) (f .read-body .result) (f .read-body .last .1 .0) (f .read-body .ensures)
+    (g .read-term .result) (g .read-term .last .1 .1 .0) (g .read-term .last .1 .1 .1 .0) (g .read-term .kept .1 .1 .0) (g .read-term .kept .1 .1 .1 .0) (g .read-term .ensures)
+    _ _ _ (y .ty2 .given .1) (f .read-body .result) (f .read-body .last .1 .1 .0) (f .read-body .ensures)
     _ _ _ (z .body2 .given .1) _ (d .declaration-record .ensures) _ _ (e .finish-declaration .ensures)
 
 pub read-named-spec : {M : Type 1} → statement M

@@ -1,22 +1,24 @@
 -- `token::comment_block` meets its contract: `all` says whether none of the bytes before i is 10.
 use Prim.Native.Nat.{_≤_, _-_}
-use mathlib.Core.Path.{_≡_, refl, sym, _∙_}
+use mathlib.Core.Path.{_≡_, refl, sym, _∙_, ap}
+use mathlib.Core.Bool.{not}
 use mathlib.Core.Logic.{⊎-elim}
 use native.Mathlib.Omega.{arith}
+use borrow.Author.Tests.{eq-eqb, ne-eqb}
 use lib.ListN.{take, drop}
-use Rattle.token.specs.Comments.{unbroken}
-use Rattle.token.proofs.CommentBlocks.{block-ends, block-goes-on}
+use Rattle.token.specs.Comments.{every, no-end}
+use Rattle.token.proofs.Blocks.{block-no, block-yes}
 use Rattle.token.proofs.comment_block.Statement.{statement}
 use Rattle.token.proofs.comment_block.Tie as tie
 
 abbrev Inv-loop : tie.InvT-loop
-Inv-loop s at all₀ i₀ all i = (i ≤ 16) × (unbroken (take i (drop at s)) ≡ all)
+Inv-loop s at all₀ i₀ all i = (i ≤ 16) × (every no-end (take i (drop at s)) ≡ all)
 
 abbrev μ-loop : tie.MeasureT-loop
 μ-loop s at all₀ i₀ all i = 16 - i
 
 loop-holds : tie.Need-loop-holds Inv-loop μ-loop
-unfolding unbroken
+unfolding every
 loop-holds c = (omega arith, refl)
 
 add-if1 : tie.Need-add-if1 Inv-loop μ-loop
@@ -35,9 +37,9 @@ loop-again : tie.Need-loop-again Inv-loop μ-loop
 loop-again c =
     let o = c .before .before .before in
     let a = o .before .args in
-    let more = block-ends (a .s .now) (a .at) (o .loop .i) (omega arith) (o .loop .inv .1) in
-    let on = block-goes-on (a .s .now) (a .at) (o .loop .i) (omega arith) (o .loop .inv .1) in
-    (omega arith, ⊎-elim (λ w. more (w .0 .taken) ∙ sym (w .1)) (λ w. on (w .0 .left) ∙ sym (w .1)) (c .if1 .came))
+    let no = block-no no-end (a .s .now) (a .at) (o .loop .i) (omega arith) (o .loop .inv .1) in
+    let yes = block-yes no-end (a .s .now) (a .at) (o .loop .i) (omega arith) (o .loop .inv .1) in
+    (omega arith, ⊎-elim (λ w. no (ap not (eq-eqb _ 10 (w .0 .taken))) ∙ sym (w .1)) (λ w. yes (ap not (ne-eqb _ 10 (w .0 .left))) ∙ sym (w .1)) (c .if1 .came))
 
 returns : tie.Need-returns Inv-loop μ-loop
 returns c =

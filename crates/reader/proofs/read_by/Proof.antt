@@ -1,8 +1,8 @@
--- `reader::read_within` meets its contract.
+-- `reader::read_by` meets its contract.
 use Rattle.reader.proofs.Modules.{head-refused, module-refused, module-done}
 use borrow.Author.Needs.{needs}
-use Rattle.reader.proofs.read_within.Statement.{statement}
-use Rattle.reader.proofs.read_within.Tie as tie
+use Rattle.reader.proofs.read_by.Statement.{statement}
+use Rattle.reader.proofs.read_by.Tie as tie
 
 read-head-requires : tie.Need-read-head-requires
 read-head-requires c κs = search needs
@@ -26,7 +26,7 @@ returns : tie.Need-returns
 returns c =
     let x = c .before in
     let i = x .before .before in
-    let a = i .before .before .before .before .before .args in
+    let a = i .before .before .before .before .before .before .args in
     λ short wide. head-refused (a .limits) (a .s .now) (a .table .now) (a .list .now) (i .read-head .result) (i .read-head .ensures) _ (x .h .given .1) _ _
 
 same-length : tie.Need-same-length
@@ -44,10 +44,10 @@ returns-2 c =
     let d = y .before .before .before .before .before .before .before .before in
     let x = d .before .before .before .before .before in
     let i = x .before .before in
-    let a = i .before .before .before .before .before .args in
+    let a = i .before .before .before .before .before .before .args in
     λ short wide.
     module-refused (a .limits) (a .s .now) (a .table .now) (a .list .now) (i .read-head .result) (i .read-head .ensures) _ _ _ (x .h2 .given .1) (a .work .now) short wide
-    (d .read-declarations .result) (d .read-declarations .last .1 .0) (d .read-declarations .last .1 .1 .0) (d .read-declarations .ensures) _ (y .d .given .1)
+    (d .read-declarations .result) (d .read-declarations .last .1 .1 .0) (d .read-declarations .last .1 .1 .1 .0) (d .read-declarations .ensures) _ (y .d .given .1)
 
 same-length-4 : tie.Need-same-length-4
 same-length-4 c = search needs
@@ -64,13 +64,13 @@ returns-3 c =
     let d = y .before .before .before .before .before .before .before .before in
     let x = d .before .before .before .before .before in
     let i = x .before .before in
-    let a = i .before .before .before .before .before .args in
+    let a = i .before .before .before .before .before .before .args in
     λ short wide.
     module-done (a .limits) (a .s .now) (a .table .now) (a .list .now) (i .read-head .result) (i .read-head .ensures) _ _ _ (x .h2 .given .1) (a .work .now) short wide
-    (d .read-declarations .result) (d .read-declarations .last .1 .0) (d .read-declarations .last .1 .1 .0) (d .read-declarations .ensures) _ _ _ (y .d2 .given .1)
+    (d .read-declarations .result) (d .read-declarations .last .1 .1 .0) (d .read-declarations .last .1 .1 .1 .0) (d .read-declarations .ensures) _ _ _ (y .d2 .given .1)
 
-pub read-within-spec : {M : Type 1} → statement M
-read-within-spec =
+pub read-by-spec : {M : Type 1} → statement M
+read-by-spec =
     tie.close
     (tie.spec
     read-head-requires

@@ -1,9 +1,9 @@
--- `core_reader::read_text` meets its contract.
+-- `core_reader::read_by` meets its contract.
 use Rattle.core_text.specs.TextReading.{text-edition}
 use Rattle.core_reader.proofs.Texts.{head-stops, tag-stops, tag-goes}
 use borrow.Author.Needs.{needs}
-use Rattle.core_reader.proofs.read_text.Statement.{statement}
-use Rattle.core_reader.proofs.read_text.Tie as tie
+use Rattle.core_reader.proofs.read_by.Statement.{statement}
+use Rattle.core_reader.proofs.read_by.Tie as tie
 
 read-head-requires : tie.Need-read-head-requires
 read-head-requires c κs = search needs
@@ -34,7 +34,7 @@ unfolding text-edition
 returns c =
     let k = c .before in
     let h = k .before .before in
-    let a = h .before .before .before .before .before .args in
+    let a = h .before .before .before .before .before .before .args in
     head-stops (a .s .now) (a .table .now) (a .list .now) (a .work .now) (h .read-head .result) (h .read-head .ensures) _ (k .h .given .1) _ _
 
 returns-2 : tie.Need-returns-2
@@ -43,7 +43,7 @@ returns-2 c =
     let l = c .before in
     let k = l .before .before .before .before .before in
     let h = k .before .before in
-    let a = h .before .before .before .before .before .args in
+    let a = h .before .before .before .before .before .before .args in
     tag-stops (a .s .now) (a .table .now) (a .list .now) (a .work .now) (h .read-head .result) (h .read-head .ensures) _ (k .h2 .given .1) _ (l .before .before .expect-tag .ensures) _ (l .l .given .1) _ _
 
 same-length : tie.Need-same-length
@@ -62,12 +62,12 @@ returns-3 c =
     let l = b .before .before .before .before .before in
     let k = l .before .before .before .before .before in
     let h = k .before .before in
-    let a = h .before .before .before .before .before .args in
+    let a = h .before .before .before .before .before .before .args in
     tag-goes (a .s .now) (a .table .now) (a .list .now) (a .work .now) (h .read-head .result) (h .read-head .ensures) _ (k .h2 .given .1) _ (l .before .before .expect-tag .ensures) _ (l .l2 .given .1)
-    (b .read-behind .result) (b .read-behind .last .1 .0) (b .read-behind .last .1 .1 .0) (b .read-behind .ensures)
+    (b .read-behind .result) (b .read-behind .last .1 .1 .0) (b .read-behind .last .1 .1 .1 .0) (b .read-behind .ensures)
 
-pub read-text-spec : {M : Type 1} → statement M
-read-text-spec =
+pub read-by-spec : {M : Type 1} → statement M
+read-by-spec =
     tie.close
     (tie.spec
     read-head-requires
