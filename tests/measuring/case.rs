@@ -64,6 +64,11 @@ pub fn cases(kind: &'static Kind, sizes: &[usize]) -> Vec<Case> {
         .collect()
 }
 
+/// A kind's accepted source of at most so many bytes, to be read.
+pub fn reading(kind: &'static Kind, size: usize) -> Case {
+    case(kind, size, Task::Read, Outcome::Accepted, &(kind.source)(size))
+}
+
 fn case(kind: &'static Kind, size: usize, task: Task, outcome: Outcome, accepted: &str) -> Case {
     let module = parse_surface(accepted.as_bytes()).expect("accepted");
     let (rows, declarations) = (module.arena().len(), module.declarations().len());

@@ -4,9 +4,10 @@ use crate::chain::{self, Measured};
 use crate::goals;
 use crate::kinds::Kind;
 use crate::row::{Row, compared, head, line, number, ratio, titles};
+use crate::three;
 use crate::work::whos;
 
-pub fn print(kinds: &[&'static Kind], rows: &[Row], asked: &[Measured]) {
+pub fn print(kinds: &[&'static Kind], rows: &[Row], asked: &[Measured], long: &[three::Measured]) {
     if !kinds.is_empty() {
         println!("### The kinds\n\n| kind | what it is |\n|---|---|");
         kinds.iter().for_each(|kind| println!("| {} | {} |", kind.name, kind.about));
@@ -15,6 +16,9 @@ pub fn print(kinds: &[&'static Kind], rows: &[Row], asked: &[Measured]) {
     }
     if !asked.is_empty() {
         chain::print(asked);
+    }
+    if !long.is_empty() {
+        three::print(long);
     }
     if !kinds.is_empty() {
         TASKS.iter().for_each(|task| OUTCOMES.iter().for_each(|outcome| print_all(*task, *outcome, rows)));

@@ -10,7 +10,8 @@ pub struct Row<'a> {
 }
 
 impl Row<'_> {
-    fn place(&self, who: Who) -> Option<usize> {
+    /// Where the figures of one who has the task are.
+    pub fn place(&self, who: Who) -> Option<usize> {
         whos(self.case.task).iter().position(|one| *one == who)
     }
 
