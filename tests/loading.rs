@@ -1,5 +1,5 @@
 //! Loading by the Rattle library against document 01 and the Rust:
-//! loading replay [FOLDER], card, compare [COUNT [SEED]], dependence [COUNT [SEED]], binder [COUNT [SEED]],
+//! loading replay [FOLDER], card, compare [COUNT [SEED]], classes, dependence [COUNT [SEED]], binder [COUNT [SEED]],
 //! same [COUNT [SEED]], program EVERY PROGRAM.
 #[cfg(mock)]
 #[allow(dead_code)]
@@ -11,6 +11,7 @@ mod loading {
     pub mod card;
     pub mod chained;
     pub mod check;
+    pub mod classes;
     pub mod compare;
     pub mod dependence;
     pub mod dependences;
@@ -44,6 +45,7 @@ fn main() -> ExitCode {
         Some("replay") => loading::replay::run(words.get(1).map_or("tests/lists", String::as_str)),
         Some("card") => loading::card::run(),
         Some("compare") => loading::compare::run(number(1, loading::compare::COUNT), number(2, 3) as u64),
+        Some("classes") => loading::classes::run(),
         Some("program") if words.len() > 2 => loading::program::run(number(1, 1), &words[2..]),
         Some("dependence") => loading::dependence::run(number(1, loading::dependence::COUNT), number(2, 4) as u64),
         Some("binder") => loading::binder::run(number(1, loading::binder::COUNT), number(2, 6) as u64),
@@ -65,7 +67,10 @@ fn main() -> ExitCode {
         #[cfg(not(mock))]
         _ => {
             let parts = ["compare", "dependence", "binder", "same"].map(|part| format!("{part} [COUNT [SEED]]"));
-            eprintln!("usage: loading replay [FOLDER] | card | {} | program EVERY PROGRAM", parts.join(" | "));
+            eprintln!(
+                "usage: loading replay [FOLDER] | card | classes | {} | program EVERY PROGRAM",
+                parts.join(" | ")
+            );
             ExitCode::from(2)
         }
     }

@@ -1,0 +1,223 @@
+//! Every byte, runs of layout, comments and names in the places of small modules, against document 01 and the Rust: where
+//! the class of one byte tells, and where bytes that may be passed over in blocks begin and end. Nothing here is random.
+use super::check::loaded;
+use super::expected::Reference;
+use super::sizes::exact;
+use super::tables::Rubbish;
+use common::tally::Tally;
+use common::vocabulary::{HEAD, NO_NAMES, ORDINARY_NAMES, RESERVED};
+use std::process::ExitCode;
+
+/// Runs, comments and names have up to so many bytes: some blocks of eight and of sixteen.
+const LONGEST: usize = 40;
+/// Another byte stands in a run of layout at the places before this one.
+const PLACES: usize = 18;
+
+/// A module of which every byte is changed. The comment has more than eighteen.
+const MODULE: &str = "{H};a comment of 20 byte\n\
+    (postulate k nat)(opaque abc (pi xyz (ref k)(universe 120)) (lam y (ref y)))";
+const CHARACTERS: [&str; 7] = ["\u{e9}", "\u{2200}", "\u{1d11e}", "\u{a0}", "\u{85}", "\u{2028}", "\u{feff}"];
+
+/// Layout at `~`: at both ends, before numerals, names, words and parentheses.
+const LAYOUT: [&str; 14] = [
+    "~{H}",
+    "(surface~0 1)(module m)",
+    "(surface 0 1)(module~m)",
+    "{H}~(postulate k nat)",
+    "{H}(~postulate k nat)",
+    "{H}(postulate~k nat)",
+    "{H}(postulate k~nat)",
+    "{H}(postulate k nat~)",
+    "{H}(postulate k (pi~x nat (ref x)))",
+    "{H}(postulate k (lam x~(ref x)))",
+    "{H}(postulate k (lam x (ref~x)))",
+    "{H}(postulate k (lam x (ref x~)))",
+    "{H}(postulate k (universe~12))",
+    "{H}(postulate k nat)~",
+];
+const OTHERS: [&str; 9] = ["\t", "\n", "\r", ";c\n", ";a longer comment\n", "a", "(", ")", "["];
+/// A comment stands before a name.
+const COMMENTED: &str = "{H}(postulate~k nat)";
+const IN_COMMENTS: [&str; 6] = ["\n", "\r", ";", "(", "\0", "\u{e9}"];
+
+/// A name behind layout at `~`, and a reference to it.
+const NAMED: [&str; 5] = [
+    "(surface 0 1)(module~)",
+    "{H}(postulate~ nat)(postulate b (ref~))",
+    "{H}(opaque~\nnat zero)(postulate b (ref~\n))",
+    "{H}(postulate b (pi~ nat (ref~)))",
+    "{H}(postulate b (lam~\n(ref~\n)))",
+];
+/// A name that ends the source.
+const ENDED: [&str; 4] = ["(surface 0 1)(module~", "{H}(postulate~", "{H}(postulate b (pi~", "{H}(postulate b (ref~"];
+const BEFORE_NAMES: [&str; 2] = [" ", "  ;c\n"];
+const IN_NAMES: [&str; 7] = ["7", "_", "-", "Z", "[", ";", "("];
+/// Lengths of names, and a place in each, for every byte.
+const NAME_PLACES: [(usize, usize); 8] = [(1, 0), (3, 0), (3, 1), (3, 2), (17, 7), (17, 8), (17, 15), (17, 16)];
+
+pub fn run() -> ExitCode {
+    let mut comparison = Comparison { tally: Tally::default(), answers: [0; 6] };
+    comparison.part("reserved words and their like as names", Comparison::words);
+    comparison.part("comments", Comparison::comments);
+    comparison.part("every byte in names", Comparison::bytes_of_names);
+    comparison.part("names with one other byte", Comparison::names);
+    comparison.part("runs of layout", Comparison::layout);
+    comparison.part("every byte in every place of a module", Comparison::bytes);
+    comparison.finish()
+}
+
+struct Comparison {
+    tally: Tally,
+    /// How often each class came, and acceptance as 0. Tables suffice, so that none above 5 comes.
+    answers: [usize; 6],
+}
+
+impl Comparison {
+    fn part(&mut self, what: &str, part: impl Fn(&mut Self)) {
+        let before = self.checked();
+        part(self);
+        println!("{what}: {}", self.checked() - before);
+    }
+
+    /// How many sources were loaded as is right.
+    fn checked(&self) -> usize {
+        self.answers.iter().sum()
+    }
+
+    fn bytes(&mut self) {
+        let module = filled(MODULE, b"");
+        for other in every() {
+            for at in 0..=module.len() {
+                self.check(&[&module[..at], &other, &module[at..]].concat());
+                if at < module.len() {
+                    self.check(&[&module[..at], &other, &module[at + 1..]].concat());
+                }
+            }
+        }
+    }
+
+    fn bytes_of_names(&mut self) {
+        for other in every() {
+            for (length, at) in NAME_PLACES {
+                self.named(&replaced(&name(length), at, &other));
+            }
+        }
+    }
+
+    fn layout(&mut self) {
+        for length in 0..=LONGEST {
+            for byte in b" \t\n\r" {
+                self.everywhere(&vec![*byte; length]);
+            }
+            for at in 0..length.min(PLACES) {
+                let spaces = OTHERS.map(|other| replaced(&vec![b' '; length], at, other.as_bytes()));
+                let tabs = replaced(&vec![b'\t'; length], at, b" ");
+                for run in spaces.into_iter().chain([tabs]) {
+                    LAYOUT.iter().for_each(|module| self.check(&filled(module, &run)));
+                }
+            }
+        }
+    }
+
+    fn comments(&mut self) {
+        for length in 0..=LONGEST {
+            let text = vec![b'c'; length];
+            self.everywhere(&comment(&text));
+            for at in 0..length {
+                for other in IN_COMMENTS {
+                    let comment = comment(&replaced(&text, at, other.as_bytes()));
+                    self.check(&filled(COMMENTED, &comment));
+                }
+            }
+        }
+    }
+
+    fn names(&mut self) {
+        for length in 1..=LONGEST {
+            for at in 0..length {
+                IN_NAMES.iter().for_each(|other| self.named(&replaced(&name(length), at, other.as_bytes())));
+            }
+        }
+    }
+
+    fn words(&mut self) {
+        for word in RESERVED {
+            let mut like = vec![word.to_string(), word[1..].to_string(), word[..word.len() - 1].to_string()];
+            like.extend(["a", "Z", "0", "_", "-", "-elim"].map(|more| format!("{word}{more}")));
+            like.extend(["a", "Z", "0", "_", "-", "nat-"].map(|more| format!("{more}{word}")));
+            like.extend([word.to_uppercase(), word.replace('-', "_"), word.replace('-', ""), word.replace('-', "--")]);
+            like.iter().for_each(|word| self.named(word.as_bytes()));
+        }
+        ORDINARY_NAMES.iter().chain(&NO_NAMES).for_each(|word| self.named(word.as_bytes()));
+    }
+
+    /// Layout in every place, and as the last bytes of the source.
+    fn everywhere(&mut self, layout: &[u8]) {
+        for module in LAYOUT {
+            self.check(&filled(module, layout));
+            let beginning = module.split('~').next().expect("a beginning");
+            self.check(&[&filled(beginning, b"")[..], layout].concat());
+        }
+    }
+
+    /// A name in every place, behind layout of each sort, and as the last bytes of the source.
+    fn named(&mut self, name: &[u8]) {
+        for before in BEFORE_NAMES {
+            NAMED.iter().for_each(|module| self.check(&filled(module, &[before.as_bytes(), name].concat())));
+        }
+        ENDED.iter().for_each(|module| self.check(&filled(module, &[b" ", name].concat())));
+    }
+
+    /// Loads with tables of exactly the sizes that reading needs.
+    fn check(&mut self, source: &[u8]) {
+        if self.tally.is_hopeless() {
+            return;
+        }
+        let reference = Reference::new(source);
+        let rubbish = Rubbish::ALL[self.checked() % Rubbish::ALL.len()];
+        let mismatch = match loaded(&reference, exact(reference.need()), rubbish) {
+            Ok(loaded) => {
+                self.answers[usize::from(loaded.class)] += 1;
+                None
+            }
+            Err(mismatch) => Some(mismatch),
+        };
+        self.tally.count(source, mismatch);
+    }
+
+    /// Every class from 1 to 5 must have come.
+    fn finish(mut self) -> ExitCode {
+        println!("accepted {}, refused by class from 1 {:?}", self.answers[0], &self.answers[1..]);
+        if self.answers.contains(&0) {
+            self.tally.broken("some answer never came");
+        }
+        self.tally.finish()
+    }
+}
+
+/// Every byte, most of those above 127 not UTF-8 by itself, and characters of two, three and four bytes.
+fn every() -> Vec<Vec<u8>> {
+    let bytes = (0..=u8::MAX).map(|byte| vec![byte]);
+    bytes.chain(CHARACTERS.map(|character| character.as_bytes().to_vec())).collect()
+}
+
+/// A module with these bytes in the place of each `~`, and the head where `{H}` stands.
+fn filled(module: &str, bytes: &[u8]) -> Vec<u8> {
+    let module = module.replace("{H}", HEAD);
+    let parts: Vec<&[u8]> = module.as_bytes().split(|byte| *byte == b'~').collect();
+    parts.join(bytes)
+}
+
+/// The bytes with others in the place of one.
+fn replaced(bytes: &[u8], at: usize, other: &[u8]) -> Vec<u8> {
+    [&bytes[..at], other, &bytes[at + 1..]].concat()
+}
+
+fn comment(text: &[u8]) -> Vec<u8> {
+    [b";", text, b"\n"].concat()
+}
+
+/// A name of so many bytes that is not reserved.
+fn name(length: usize) -> Vec<u8> {
+    b"kQ_z7".iter().copied().cycle().take(length).collect()
+}
