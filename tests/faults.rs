@@ -38,7 +38,12 @@ fn skip_layout(source: &[u8], mut at: usize) -> usize {
     while let Some(&byte) = source.get(at) {
         if byte == b';' && !(is("one-comment-only") && comments == 1) {
             comments += 1;
-            at += source[at..].iter().position(|byte| ends_comment(*byte)).unwrap_or(source.len() - at);
+            let missed = |place: usize| is("comment-goes-over-a-16th-byte") && place % 16 == 0;
+            let mut places = source[at..].iter().enumerate();
+            let end = places.position(|(place, byte)| ends_comment(*byte) && !missed(place));
+            at += end.unwrap_or(source.len() - at);
+        } else if passes_eight(&source[at..]) {
+            at += 8;
         } else if is_layout(byte) {
             at += 1;
         } else {
@@ -46,6 +51,15 @@ fn skip_layout(source: &[u8], mut at: usize) -> usize {
         }
     }
     at
+}
+
+/// A mistake about eight spaces that are passed over at once.
+fn passes_eight(rest: &[u8]) -> bool {
+    match fault() {
+        "eight-spaces-by-seven" => rest.len() >= 8 && rest[..7] == [b' '; 7],
+        "eight-spaces-beyond-the-end" => rest.iter().take(8).all(|byte| *byte == b' '),
+        _ => false,
+    }
 }
 
 fn ends_comment(byte: u8) -> bool {
@@ -57,6 +71,7 @@ fn is_layout(byte: u8) -> bool {
         b' ' | b'\t' | b'\n' => true,
         b'\r' => !is("byte-13-no-layout"),
         11 | 12 => is("bytes-11-12-layout"),
+        127 => is("byte-127-is-layout"),
         _ => false,
     }
 }
@@ -65,6 +80,7 @@ fn is_atom_byte(byte: u8) -> bool {
     match byte {
         b'-' => !is("hyphen-no-atom"),
         b'_' => !is("underscore-no-atom"),
+        b'`' => is("byte-96-makes-atoms"),
         128.. => is("atom-of-any-byte-above-127"),
         _ => byte.is_ascii_alphanumeric(),
     }

@@ -53,6 +53,8 @@ fn main() -> ExitCode {
         #[cfg(mock)]
         Some("--faults") => print_all(&common::fault::LOADING),
         #[cfg(mock)]
+        Some("--classes-faults") => print_all(&common::fault::CLASSES),
+        #[cfg(mock)]
         Some("--dependence-faults") => print_all(&common::fault::DEPENDENCE),
         #[cfg(mock)]
         Some("--binder-faults") => print_all(&common::fault::BINDER),

@@ -143,6 +143,19 @@ pub const LOADING: [&str; 87] = [
     "unused-values-left",
 ];
 
+/// Of the classes of bytes, and of layout, comments and names that are read by blocks or in one pass.
+pub const CLASSES: [&str; 9] = [
+    "byte-96-makes-atoms",
+    "byte-127-is-layout",
+    "eight-spaces-by-seven",
+    "eight-spaces-beyond-the-end",
+    "comment-goes-over-a-16th-byte",
+    "hyphen-behind-16-bytes-of-a-name",
+    "digit-begins-a-name-behind-blank",
+    "digit-begins-a-name-behind-a-comment",
+    "reserved-word-behind-blank-is-a-name",
+];
+
 /// Of the dependence question: the rows of the declaration that is asked of, what shows a place, the row that is shown, the
 /// places, the tables.
 pub const DEPENDENCE: [&str; 24] = [
@@ -355,7 +368,8 @@ pub fn fault() -> &'static str {
     static FAULT: OnceLock<String> = OnceLock::new();
     FAULT.get_or_init(|| {
         let name = std::env::var("FAULT").unwrap_or_default();
-        let known = [&TEXT[..], &LOADING, &DEPENDENCE, &BINDER, &SAME, &LISTING, &PRINTING, &READING].concat();
+        let known =
+            [&TEXT[..], &LOADING, &CLASSES, &DEPENDENCE, &BINDER, &SAME, &LISTING, &PRINTING, &READING].concat();
         assert!(name.is_empty() || known.contains(&name.as_str()), "no fault is called {name}");
         name
     })

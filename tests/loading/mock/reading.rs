@@ -250,8 +250,12 @@ impl<'a> Reader<'a> {
     }
 
     fn name(&mut self) -> Result<Token> {
+        let before = self.at;
         let token = self.expect(Kind::Atom)?;
         let atom = bytes(self.source, token);
+        if is_mistaken_name(atom, self.source[before..token.start].contains(&b';')) {
+            return Ok(token);
+        }
         let reserved = RESERVED.iter().any(|word| word.as_bytes() == atom);
         let reserved = faults::word_index(atom).map_or(reserved, |index| index != 0);
         let letters = atom.iter().all(|byte| byte.is_ascii_alphanumeric() || *byte == b'_');
@@ -272,6 +276,23 @@ impl<'a> Reader<'a> {
 
     fn kind_of(&self, kinds: &[&str], token: Token) -> Option<u32> {
         kinds.iter().find_map(|word| kind_number(kinds, word).filter(|_| self.is(token, word)))
+    }
+}
+
+/// Whether a mistake takes the atom behind blank or a comment for a name.
+fn is_mistaken_name(atom: &[u8], behind_comment: bool) -> bool {
+    let letters = |byte: &u8| byte.is_ascii_alphanumeric() || *byte == b'_';
+    let digit_first = atom[0].is_ascii_digit() && atom.iter().all(letters);
+    match fault() {
+        "digit-begins-a-name-behind-blank" => !behind_comment && digit_first,
+        "digit-begins-a-name-behind-a-comment" => behind_comment && digit_first,
+        "reserved-word-behind-blank-is-a-name" => {
+            !behind_comment && RESERVED.iter().any(|word| word.as_bytes() == atom)
+        }
+        "hyphen-behind-16-bytes-of-a-name" => {
+            atom.len() > 16 && !atom[0].is_ascii_digit() && atom[..16].iter().all(letters)
+        }
+        _ => false,
     }
 }
 
