@@ -68,3 +68,12 @@ identifier-in f s at start end e h q x r =
 pub blank-same : (f : Format) → f ≡ Format.Surface01 → (s : List ℕ) (at r : ℕ) → SameLayout s at r → edition f .tokens s r ≡ edition f .tokens s at
 unfolding edition-0-1
 blank-same f q s at r e = subst (λ (g : Format). edition g .tokens s r ≡ edition g .tokens s at) (sym q) (same-next s at r e)
+
+-- A word that is told by its classes is the next token, and the atom that is read.
+module _ (f : Format) (s : List ℕ) (start end : ℕ) (q : f ≡ Format.Surface01) (x : NameAt s start end) where
+  pub word-token : Got (found start end) ≡ edition f .tokens s start
+  unfolding edition-0-1
+  word-token = subst (λ (g : Format). Got (found start end) ≡ edition g .tokens s start) (sym q) (sym (x .here))
+
+  pub word-read : Reads (atom (edition f .tokens s)) start (Got (found start end))
+  word-read = λ n. atom-kind (edition f .tokens s) _ ∙ kind-got (edition f .tokens s) TokenKind.Atom start (Got (found start end)) word-token (found start end) refl refl n

@@ -590,16 +590,58 @@ fn begin_tagged(s: &[u8], classes: &[u8], lparen: Token, t: Token, format: Forma
     }
 }
 
+// The word of a form. Most stand right behind the parenthesis, and are told while their end is looked for.
+fn form_word(s: &[u8], classes: &[u8], at: usize, format: Format) -> Lexed
+    requires { ⌜ ClassTable (now classes) ⌝ }
+    ensures { λ r. ⌜ Reads (atom (edition format .tokens (now (s .entry)))) at r ⌝ }
+{
+    let end = name_end(s, classes, at, format);
+    if at < end {
+        return Lexed::Got(Token {
+            kind: TokenKind::Atom,
+            start: at,
+            end: end,
+        });
+    }
+    next_atom(s, classes, at, format)
+}
+
 // The beginning of a term behind its parenthesis.
 fn begin_form(s: &[u8], classes: &[u8], lparen: Token, format: Format) -> Begun
     requires { ⌜ ClassTable (now classes) ⌝ }
     ensures { λ r. ⌜ BeginsOn (edition format) (now (s .entry)) lparen TokenKind.LParen r ⌝ }
 {
-    let l = next_atom(s, classes, lparen.end, format);
+    let l = form_word(s, classes, lparen.end, format);
     match l {
         Lexed::Refused(r) => Begun::Refused(r),
         Lexed::Got(t) => begin_tagged(s, classes, lparen, t, format),
     }
+}
+
+// The token that a term begins with: a parenthesis at its place, or a word that is told while its end is looked for, or any other.
+fn term_token(s: &[u8], classes: &[u8], at: usize, format: Format) -> Lexed
+    requires { ⌜ ClassTable (now classes) ⌝ }
+    ensures { λ r. ⌜ r ≡ edition format .tokens (now (s .entry)) at ⌝ }
+{
+    if at < s.len() {
+        if s[at] == 40 {
+            let end = at + 1;
+            return Lexed::Got(Token {
+                kind: TokenKind::LParen,
+                start: at,
+                end: end,
+            });
+        }
+    }
+    let end = name_end(s, classes, at, format);
+    if at < end {
+        return Lexed::Got(Token {
+            kind: TokenKind::Atom,
+            start: at,
+            end: end,
+        });
+    }
+    lex(s, classes, at, format)
 }
 
 // What a term begins with: all of a term without arguments, or a form with its name.
@@ -607,7 +649,7 @@ pub fn begin_term(s: &[u8], classes: &[u8], at: usize, format: Format) -> Begun
     requires { ⌜ ClassTable (now classes) ⌝ }
     ensures { λ r. ⌜ Begins (edition format) (now (s .entry)) at r ⌝ }
 {
-    let l = next_token(s, classes, at, format);
+    let l = term_token(s, classes, behind_space(s, at), format);
     match l {
         Lexed::Refused(r) => Begun::Refused(r),
         Lexed::Got(t) => {

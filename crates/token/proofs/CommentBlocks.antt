@@ -35,3 +35,6 @@ module _ (s : List ℕ) (at : ℕ) where
 
     pub same-byte : i < length s → (getD s i 0 ≡ 10 → ⊥) → SameComment s at (i + 1)
     same-byte h b = record { low = omega (arith, e .low); high = omega arith; same = e .same ∙ comment-more s i h b }
+
+  pub same-on : (i k : ℕ) → SameComment s at i → SameComment s i k → SameComment s at k
+  same-on i k e f = record { low = omega (arith, e .low, f .low); high = f .high; same = e .same ∙ f .same }

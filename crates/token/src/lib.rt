@@ -67,17 +67,19 @@ pub fn class_table() -> [u8; 256]
     CLASSES
 }
 
-// How many bytes of a comment are looked at together.
+// How many bytes of a comment are looked at together, and how many before they are looked at one by one.
 const BLOCK: usize = 16;
 
-// Whether a block has no byte 10. This loop becomes a few instructions on the whole block.
-fn comment_block(s: &[u8], at: usize) -> bool
-    requires { ⌜ at + 16 ≤ length (now s) ⌝ }
-    ensures { λ r. ⌜ r ≡ every no-end (take 16 (drop at (now (s .entry)))) ⌝ }
+const HALF: usize = 8;
+
+// Whether a block of n bytes has no byte 10. This loop becomes a few instructions on the whole block.
+fn comment_block(s: &[u8], at: usize, n: usize) -> bool
+    requires { ⌜ at + n ≤ length (now s) ⌝ }
+    ensures { λ r. ⌜ r ≡ every no-end (take n (drop at (now (s .entry)))) ⌝ }
 {
     let mut all = true;
     let mut i = 0;
-    while i < BLOCK {
+    while i < n {
         if s[at + i] == 10 {
             all = false;
         }
@@ -94,7 +96,7 @@ fn comment_blocks(s: &[u8], at: usize) -> usize
     let n = s.len();
     let mut i = at;
     while BLOCK <= n - i {
-        if !comment_block(s, i) {
+        if !comment_block(s, i, BLOCK) {
             return i;
         }
         i += BLOCK;
@@ -102,12 +104,26 @@ fn comment_blocks(s: &[u8], at: usize) -> usize
     i
 }
 
+// The same for one half of a block.
+fn half_block(s: &[u8], at: usize) -> usize
+    requires { ⌜ at ≤ length (now s) ⌝ }
+    ensures { λ r. ⌜ SameComment (now (s .entry)) at r ⌝ }
+{
+    if HALF <= s.len() - at {
+        if comment_block(s, at, HALF) {
+            return at + HALF;
+        }
+    }
+    at
+}
+
 // Where the comment that `at` is in ends.
 fn comment_end(s: &[u8], at: usize) -> usize
     requires { ⌜ at ≤ length (now s) ⌝ }
     ensures { λ r. ⌜ r ≡ comment-end at (drop at (now (s .entry))) ⌝ }
 {
-    let mut pos = comment_blocks(s, at);
+    let behind = comment_blocks(s, at);
+    let mut pos = half_block(s, behind);
     while pos < s.len() {
         if s[pos] == 10 {
             return pos;
@@ -131,6 +147,7 @@ fn class_at(s: &[u8], classes: &[u8], at: usize) -> u8
 pub fn skip_blank(s: &[u8], classes: &[u8], at: usize) -> usize
     requires { ⌜ ClassTable (now classes) ⌝ }
     ensures { λ r. ⌜ SameLayout (now (s .entry)) at r ⌝ }
+    ensures { λ r. ⌜ at ≤ r ⌝ }
 {
     let mut pos = at;
     while pos < s.len() {
@@ -189,7 +206,8 @@ fn skip_layout(s: &[u8], classes: &[u8], at: usize) -> usize
             return pos;
         }
         if class == 0 {
-            pos = skip_spaces(s, pos + 1);
+            let behind = skip_spaces(s, pos + 1);
+            pos = skip_blank(s, classes, behind);
         } else {
             pos = comment_end(s, pos + 1);
         }

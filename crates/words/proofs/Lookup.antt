@@ -46,10 +46,6 @@ abbrev pub Each : (ℕ → Type 0) → List ℕ → Type 0
 Each P [] = Unit {0}
 Each P (k ∷ ks) = Each P ks × P k
 
-pub each-map : (P Q : ℕ → Type 0) → ((k : ℕ) → P k → Q k) → (ks : List ℕ) → Each P ks → Each Q ks
-each-map P Q f [] e = tt
-each-map P Q f (k ∷ ks) e = (each-map P Q f ks (e .0), f k (e .1))
-
 each-is : (P : ℕ → Type 0) (k : ℕ) (ks : List ℕ) → among k ks ≡ true → Each P ks → P k
 each-is P k [] a e = absurd (false≢true a)
 each-is P k (j ∷ js) a e = by (eqb k j) refl a (λ b. each-is P k js b (e .0))

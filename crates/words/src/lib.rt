@@ -6,6 +6,7 @@ ghost use Prim.Native.Nat.{_≤_, _<_};
 ghost use lib.ListN.{length};
 ghost use Rattle.token.specs.Token.{digit};
 ghost use Rattle.words.specs.Words.{same-bytes, word-index, reserved, name-start, name-byte, identifier, numeral, name-test};
+ghost use Rattle.words.specs.Slots.{word-slot, slot-entry};
 
 pub enum NameTest {
     Name,
@@ -24,37 +25,68 @@ pub fn same_bytes(a: &[u8], b: &[u8]) -> bool
     differences::first_difference(a, b) == n
 }
 
-// The place of an atom of fewer than eight bytes, by its number: its bytes, the first one last, behind a digit 1. A table of the words
-// would be copied at each call.
+// The slot in which a word of fewer than eight bytes is looked for, by its number: no two of the reserved ones share one.
+fn word_slot(number: u64) -> u64
+    ensures { λ r. ⌜ r ≡ word-slot number ⌝ }
+{
+    number % 0x1_0000_0000 * 5011 / 0x10_0000 % 32
+}
+
+// 2^58: what a place counts in an entry, above the number of the word.
+const PLACE: u64 = 0x0400_0000_0000_0000;
+
+// The entry of a slot: its reserved word's number and place; where there is none, those of the empty atom. With an arm for each slot this
+// becomes a table that is read in place; an array would be copied at each call, and fewer arms become jumps.
+fn slot_entry(slot: u64) -> u64
+    ensures { λ r. ⌜ r ≡ slot-entry slot ⌝ }
+{
+    match slot {
+        0 => 0x24_000000016d616c, // 9 lam
+        1 => 0x44_0000000000016a, // 17 j
+        2 => 1,
+        3 => 0x60_0000016f72657a, // 24 zero
+        4 => 0x14_0165757161706f, // 5 opaque
+        5 => 0x40_0000016c666572, // 16 refl
+        6 => 0x34_00000001747366, // 13 fst
+        7 => 0x05_65636166727573, // 1 surface
+        8 => 1,
+        9 => 0x6c_000000016e6e61, // 27 ann
+        10 => 0x48_00017974706d65, // 18 empty
+        11 => 0x30_00000172696170, // 12 pair
+        12 => 1,
+        13 => 0x38_00000001646e73, // 14 snd
+        14 => 1,
+        15 => 0x08_01656c75646f6d, // 2 module
+        16 => 0x5c_0000000174616e, // 23 nat
+        17 => 1,
+        18 => 1,
+        19 => 0x2c_0001616d676973, // 11 sigma
+        20 => 0x3c_00000000016469, // 15 id
+        21 => 0x18_00000001666572, // 6 ref
+        22 => 1,
+        23 => 1,
+        24 => 1,
+        25 => 0x54_00000172617473, // 21 star
+        26 => 0x20_00000000016970, // 8 pi
+        27 => 0x50_00000174696e75, // 20 unit
+        28 => 1,
+        29 => 0x64_00000163637573, // 25 succ
+        30 => 0x28_00000001707061, // 10 app
+        _ => 1,
+    }
+}
+
+// The place of an atom of fewer than eight bytes, by its number: its bytes, the first one last, behind a digit 1.
 fn short_index(w: &[u8]) -> u8
     requires { ⌜ length (now w) < 8 ⌝ }
     ensures { λ r. ⌜ r ≡ word-index (now (w .entry)) ⌝ }
 {
     let number = differences::number(1, w);
-    match number {
-        0x16a => 17, // j
-        0x16970 => 8, // pi
-        0x16469 => 15, // id
-        0x1666572 => 6, // ref
-        0x16d616c => 9, // lam
-        0x1707061 => 10, // app
-        0x1747366 => 13, // fst
-        0x1646e73 => 14, // snd
-        0x174616e => 23, // nat
-        0x16e6e61 => 27, // ann
-        0x172696170 => 12, // pair
-        0x16c666572 => 16, // refl
-        0x174696e75 => 20, // unit
-        0x172617473 => 21, // star
-        0x16f72657a => 24, // zero
-        0x163637573 => 25, // succ
-        0x1616d676973 => 11, // sigma
-        0x17974706d65 => 18, // empty
-        0x1656c75646f6d => 2, // module
-        0x165757161706f => 5, // opaque
-        0x165636166727573 => 1, // surface
-        _ => 0,
+    let slot = word_slot(number);
+    if slot_entry(slot) % PLACE == number {
+        return (slot_entry(slot) / PLACE) as u8;
     }
+    0
 }
 
 // Which of two words an atom is, by their places; 0 where it is neither.

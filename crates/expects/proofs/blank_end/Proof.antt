@@ -14,7 +14,7 @@ enum-told-2 : tie.Need-enum-told-2
 enum-told-2 c = search needs
 
 returns : tie.Need-returns
-returns c = blank-same _ (c .before .enum-told .given .1) _ _ _ (c .skip-blank .ensures)
+returns c = blank-same _ (c .before .enum-told .given .1) _ _ _ (c .skip-blank .ensures .0)
 
 returns-2 : tie.Need-returns-2
 returns-2 c = search needs

@@ -12,10 +12,10 @@ use Rattle.token.proofs.comment_block.Statement.{statement}
 use Rattle.token.proofs.comment_block.Tie as tie
 
 abbrev Inv-loop : tie.InvT-loop
-Inv-loop s at all₀ i₀ all i = (i ≤ 16) × (every no-end (take i (drop at s)) ≡ all)
+Inv-loop s at n all₀ i₀ all i = (i ≤ n) × (every no-end (take i (drop at s)) ≡ all)
 
 abbrev μ-loop : tie.MeasureT-loop
-μ-loop s at all₀ i₀ all i = 16 - i
+μ-loop s at n all₀ i₀ all i = n - i
 
 loop-holds : tie.Need-loop-holds Inv-loop μ-loop
 unfolding every
@@ -44,7 +44,7 @@ loop-again c =
 returns : tie.Need-returns Inv-loop μ-loop
 returns c =
     let l = c .before .loop in
-    let q : l .i ≡ 16 = omega arith in
+    let q : l .i ≡ c .before .before .args .n = omega arith in
     sym (rw q at (l .inv .1))
 
 pub comment-block-spec : {M : Type 1} → statement M

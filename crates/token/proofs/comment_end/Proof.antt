@@ -5,21 +5,24 @@ use native.Mathlib.Omega.{arith}
 use lib.ListN.{length}
 use Rattle.token.specs.Comments.{SameComment}
 use Rattle.token.proofs.Comments.{comment-stop, comment-over}
-use Rattle.token.proofs.CommentBlocks.{same-byte}
+use Rattle.token.proofs.CommentBlocks.{same-byte, same-on}
 use Rattle.token.proofs.comment_end.Statement.{statement}
 use Rattle.token.proofs.comment_end.Tie as tie
 
 abbrev Inv-loop : tie.InvT-loop
-Inv-loop s at pos₀ pos = SameComment s at pos
+Inv-loop s at behind pos₀ pos = SameComment s at pos
 
 abbrev μ-loop : tie.MeasureT-loop
-μ-loop s at pos₀ pos = length s - pos
+μ-loop s at behind pos₀ pos = length s - pos
 
 comment-blocks-requires : tie.Need-comment-blocks-requires Inv-loop μ-loop
 comment-blocks-requires c κs = c .before .pre
 
+half-block-requires : tie.Need-half-block-requires Inv-loop μ-loop
+half-block-requires c κs = c .comment-blocks .ensures .high
+
 loop-holds : tie.Need-loop-holds Inv-loop μ-loop
-loop-holds c = c .comment-blocks .ensures
+loop-holds c = same-on _ _ _ _ (c .before .comment-blocks .ensures) (c .half-block .ensures)
 
 shared-slice-read-if1 : tie.Need-shared-slice-read-if1 Inv-loop μ-loop
 shared-slice-read-if1 c = omega arith
@@ -46,6 +49,7 @@ comment-end-spec =
     Inv-loop
     μ-loop
     comment-blocks-requires
+    half-block-requires
     loop-holds
     shared-slice-read-if1
     returns

@@ -1,5 +1,5 @@
 -- `token::skip_blank` meets its contract: what is left of the layout ends where the whole does.
-use Prim.Native.Nat.{_-_}
+use Prim.Native.Nat.{_-_, _≤_}
 use mathlib.Core.Path.{refl, sym, _∙_}
 use native.Mathlib.Omega.{arith}
 use borrow.Author.Needs.{needs}
@@ -11,13 +11,13 @@ use Rattle.token.proofs.skip_blank.Statement.{statement}
 use Rattle.token.proofs.skip_blank.Tie as tie
 
 abbrev Inv-loop : tie.InvT-loop
-Inv-loop s classes at pos₀ pos = SameLayout s at pos
+Inv-loop s classes at pos₀ pos = SameLayout s at pos × at ≤ pos
 
 abbrev μ-loop : tie.MeasureT-loop
 μ-loop s classes at pos₀ pos = length s - pos
 
 loop-holds : tie.Need-loop-holds Inv-loop μ-loop
-loop-holds c = refl
+loop-holds c = (refl, omega arith)
 
 class-at-requires : tie.Need-class-at-requires Inv-loop μ-loop
 class-at-requires c κs = search needs
@@ -33,7 +33,8 @@ loop-less c = omega arith
 
 loop-again : tie.Need-loop-again Inv-loop μ-loop
 loop-again c =
-    c .before .before .before .loop .inv ∙ layout-blank _ _ (search needs) (layout-class _ (sym (c .before .class-at .ensures) ∙ c .if1 .left))
+    let v = c .before .before .before .loop .inv in
+    (v .0 ∙ layout-blank _ _ (search needs) (layout-class _ (sym (c .before .class-at .ensures) ∙ c .if1 .left)), omega (arith, v .1))
 
 returns-2 : tie.Need-returns-2 Inv-loop μ-loop
 returns-2 c = c .before .loop .inv

@@ -35,14 +35,20 @@ add-skip-spaces c = omega arith
 skip-spaces-requires : tie.Need-skip-spaces-requires Inv-loop μ-loop
 skip-spaces-requires c κs = omega arith
 
+skip-blank-requires : tie.Need-skip-blank-requires Inv-loop μ-loop
+skip-blank-requires c κs = search needs
+
 loop-less : tie.Need-loop-less Inv-loop μ-loop
-loop-less c = omega (arith, c .skip-spaces .ensures .low)
+loop-less c = omega (arith, c .before .skip-spaces .ensures .low, c .skip-blank .ensures .1)
 
 loop-again : tie.Need-loop-again Inv-loop μ-loop
 loop-again c =
-    let f = c .before in
+    let f = c .before .before in
     let g = f .before .before in
-    g .before .before .loop .inv ∙ layout-blank _ _ (search needs) (layout-class _ (sym (g .class-at .ensures) ∙ f .if2 .taken)) ∙ c .skip-spaces .ensures .same
+    g .before .before .loop .inv
+    ∙ layout-blank _ _ (search needs) (layout-class _ (sym (g .class-at .ensures) ∙ f .if2 .taken))
+    ∙ c .before .skip-spaces .ensures .same
+    ∙ c .skip-blank .ensures .0
 
 add-comment-end : tie.Need-add-comment-end Inv-loop μ-loop
 add-comment-end c = omega arith
@@ -76,6 +82,7 @@ skip-layout-spec =
     returns
     add-skip-spaces
     skip-spaces-requires
+    skip-blank-requires
     loop-less
     loop-again
     add-comment-end
