@@ -193,8 +193,8 @@ pub fn expect_end(s: &[u8], classes: &[u8], at: usize, format: Format) -> Lexed
     expect_kind(lex(s, classes, at, format), TokenKind::Eof)
 }
 
-// As `expect_kind` would have it, but the token is not handed on.
-pub fn next_atom(s: &[u8], classes: &[u8], at: usize, format: Format) -> Lexed
+// The next token, which must be an atom. As `expect_kind` would have it, but the token is not handed on.
+fn lexed_atom(s: &[u8], classes: &[u8], at: usize, format: Format) -> Lexed
     requires { ⌜ ClassTable (now classes) ⌝ }
     ensures { λ r. ⌜ Reads (atom (edition format .tokens (now (s .entry)))) at r ⌝ }
 {
@@ -210,6 +210,22 @@ pub fn next_atom(s: &[u8], classes: &[u8], at: usize, format: Format) -> Lexed
             Lexed::Refused(refused_at(1, start))
         }
     }
+}
+
+// The same. A word that stands at its place is told while its end is looked for.
+pub fn next_atom(s: &[u8], classes: &[u8], at: usize, format: Format) -> Lexed
+    requires { ⌜ ClassTable (now classes) ⌝ }
+    ensures { λ r. ⌜ Reads (atom (edition format .tokens (now (s .entry)))) at r ⌝ }
+{
+    let end = name_end(s, classes, at, format);
+    if at < end {
+        return Lexed::Got(Token {
+            kind: TokenKind::Atom,
+            start: at,
+            end: end,
+        });
+    }
+    lexed_atom(s, classes, at, format)
 }
 
 pub fn expect_atom(s: &[u8], classes: &[u8], at: usize, expected: &[u8], format: Format) -> Lexed
@@ -234,7 +250,7 @@ pub fn parse_natural(s: &[u8], classes: &[u8], at: usize, format: Format) -> Lex
     requires { ⌜ ClassTable (now classes) ⌝ }
     ensures { λ r. ⌜ Reads (natural (edition format .tokens (now (s .entry))) (now (s .entry))) at r ⌝ }
 {
-    let l = next_atom(s, classes, at, format);
+    let l = lexed_atom(s, classes, at, format);
     match l {
         Lexed::Refused(r) => Lexed::Refused(r),
         Lexed::Got(t) => {
@@ -269,7 +285,7 @@ fn tested_identifier(s: &[u8], classes: &[u8], at: usize, format: Format) -> Lex
     requires { ⌜ ClassTable (now classes) ⌝ }
     ensures { λ r. ⌜ Reads (name (edition format) (now (s .entry))) at r ⌝ }
 {
-    let l = next_atom(s, classes, at, format);
+    let l = lexed_atom(s, classes, at, format);
     match l {
         Lexed::Refused(r) => Lexed::Refused(r),
         Lexed::Got(t) => {
@@ -590,7 +606,7 @@ fn begin_tagged(s: &[u8], classes: &[u8], lparen: Token, t: Token, format: Forma
     }
 }
 
-// The word of a form. Most stand right behind the parenthesis, and are told while their end is looked for.
+// The word of a form, as `next_atom` has it: a function that is called once is put in the place of its call.
 fn form_word(s: &[u8], classes: &[u8], at: usize, format: Format) -> Lexed
     requires { ⌜ ClassTable (now classes) ⌝ }
     ensures { λ r. ⌜ Reads (atom (edition format .tokens (now (s .entry)))) at r ⌝ }
@@ -603,7 +619,7 @@ fn form_word(s: &[u8], classes: &[u8], at: usize, format: Format) -> Lexed
             end: end,
         });
     }
-    next_atom(s, classes, at, format)
+    lexed_atom(s, classes, at, format)
 }
 
 // The beginning of a term behind its parenthesis.
@@ -649,7 +665,9 @@ pub fn begin_term(s: &[u8], classes: &[u8], at: usize, format: Format) -> Begun
     requires { ⌜ ClassTable (now classes) ⌝ }
     ensures { λ r. ⌜ Begins (edition format) (now (s .entry)) at r ⌝ }
 {
-    let l = term_token(s, classes, behind_space(s, at), format);
+    let behind = behind_space(s, at);
+    let start = blank_end(s, classes, behind, format);
+    let l = term_token(s, classes, start, format);
     match l {
         Lexed::Refused(r) => Begun::Refused(r),
         Lexed::Got(t) => {

@@ -102,12 +102,12 @@ fn long_sequence(s: &[u8], at: usize) -> usize
 }
 
 // How many bytes are looked at together.
-const BLOCK: usize = 32;
+const BLOCK: usize = 64;
 
 // Whether a block is ASCII: its greatest byte is. This loop becomes a few instructions on the whole block.
 fn ascii_block(s: &[u8], at: usize) -> bool
-    requires { ⌜ at + 32 ≤ length (now s) ⌝ }
-    ensures { λ r. ⌜ r ≡ ascii (take 32 (drop at (now (s .entry)))) ⌝ }
+    requires { ⌜ at + 64 ≤ length (now s) ⌝ }
+    ensures { λ r. ⌜ r ≡ ascii (take 64 (drop at (now (s .entry)))) ⌝ }
 {
     let mut greatest = 0;
     let mut i = 0;

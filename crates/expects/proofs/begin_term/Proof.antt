@@ -16,9 +16,12 @@ use Rattle.expects.proofs.begin_term.Tie as tie
 behind-space-requires : tie.Need-behind-space-requires
 behind-space-requires c κs = search needs
 
--- The token behind a space is the one before it.
-told : (c : tie.After-term-token) → c .term-token .result ≡ edition (c .before .before .before .before .args .format) .tokens (c .before .before .before .before .args .s .now) (c .before .before .before .before .args .at)
-told c = c .term-token .ensures ∙ c .before .behind-space .ensures (c .before .before .before .before .args .format)
+blank-end-requires : tie.Need-blank-end-requires
+blank-end-requires c κs = search needs
+
+-- The token behind layout is the one before it.
+told : (c : tie.After-term-token) → c .term-token .result ≡ edition (c .before .before .before .before .before .args .format) .tokens (c .before .before .before .before .before .args .s .now) (c .before .before .before .before .before .args .at)
+told c = let b = c .before in c .term-token .ensures ∙ b .blank-end .ensures ∙ b .before .behind-space .ensures (b .before .before .before .before .args .format)
 
 term-token-requires : tie.Need-term-token-requires
 term-token-requires c κs = search needs
@@ -41,7 +44,7 @@ enum-told-2 c = search needs
 begin-bare-requires : tie.Need-begin-bare-requires
 begin-bare-requires c κs =
     let k = c .before .before .before in
-    next-inside (source (k .before .before .before .before .before .before .args .format) _) _ _ (sym (told (k .before .before)) ∙ k .l2 .given .1)
+    next-inside (source (k .before .before .before .before .before .before .before .args .format) _) _ _ (sym (told (k .before .before)) ∙ k .l2 .given .1)
     (λ q. let z : _≡_ {A = ℕ} 0 1 = cc (c .enum-told2 .given .1) in omega arith)
 
 refused-at-requires : tie.Need-refused-at-requires
@@ -50,26 +53,26 @@ refused-at-requires c κs = search needs
 returns : tie.Need-returns
 returns c =
     let k = c .before in
-    term-refused (edition (k .before .before .before .before .before .before .args .format)) (bounded (k .before .before .before .before .before .before .args .format)) _ _ _ (told (k .before .before)) _ (k .l .given .1)
+    term-refused (edition (k .before .before .before .before .before .before .before .args .format)) (bounded (k .before .before .before .before .before .before .before .args .format)) _ _ _ (told (k .before .before)) _ (k .l .given .1)
 
 returns-2 : tie.Need-returns-2
 returns-2 c =
     let o = c .before in
     let k = o .before .before .before in
-    term-on (edition (k .before .before .before .before .before .before .args .format)) (bounded (k .before .before .before .before .before .before .args .format)) _ _ _ (told (k .before .before)) _ (k .l2 .given .1) TokenKind.LParen (o .enum-told .given .1)
+    term-on (edition (k .before .before .before .before .before .before .before .args .format)) (bounded (k .before .before .before .before .before .before .before .args .format)) _ _ _ (told (k .before .before)) _ (k .l2 .given .1) TokenKind.LParen (o .enum-told .given .1)
     (λ q. let z : _≡_ {A = ℕ} 0 1 = cc in omega arith) (c .begin-form .result) (c .begin-form .ensures)
 
 returns-3 : tie.Need-returns-3
 returns-3 c =
     let o = c .before in
     let k = o .before .before .before in
-    term-on (edition (k .before .before .before .before .before .before .args .format)) (bounded (k .before .before .before .before .before .before .args .format)) _ _ _ (told (k .before .before)) _ (k .l2 .given .1) TokenKind.Atom (o .enum-told2 .given .1)
-    (λ q. let z : _≡_ {A = ℕ} 0 1 = cc in omega arith) (c .begin-bare .result) (c .begin-bare .ensures (k .before .before .before .before .before .before .args .format))
+    term-on (edition (k .before .before .before .before .before .before .before .args .format)) (bounded (k .before .before .before .before .before .before .before .args .format)) _ _ _ (told (k .before .before)) _ (k .l2 .given .1) TokenKind.Atom (o .enum-told2 .given .1)
+    (λ q. let z : _≡_ {A = ℕ} 0 1 = cc in omega arith) (c .begin-bare .result) (c .begin-bare .ensures (k .before .before .before .before .before .before .before .args .format))
 
 returns-4 : tie.Need-returns-4
 returns-4 c =
     let k = c .before .before .before in
-    term-not (edition (k .before .before .before .before .before .before .args .format)) (bounded (k .before .before .before .before .before .before .args .format)) _ _ _ (told (k .before .before)) _ (k .l2 .given .1)
+    term-not (edition (k .before .before .before .before .before .before .before .args .format)) (bounded (k .before .before .before .before .before .before .before .args .format)) _ _ _ (told (k .before .before)) _ (k .l2 .given .1)
     (λ q. miss (1 ∷ 3 ∷ 4 ∷ []) 0 tt (rw q at (c .before .match2 .keys3)))
     (λ q. miss (1 ∷ 3 ∷ 4 ∷ []) 2 tt (rw q at (c .before .match2 .keys3))) _ (c .refused-at .ensures)
 
@@ -78,6 +81,7 @@ begin-term-spec =
     tie.close
     (tie.spec
     behind-space-requires
+    blank-end-requires
     term-token-requires
     enum-known-l
     enum-known-l-2

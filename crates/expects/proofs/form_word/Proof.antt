@@ -12,11 +12,11 @@ returns c =
     let x = c .before .name-end .ensures (c .if1 .taken) in
     word-read (c .before .before .before .before .args .format) _ _ _ (x .0) (x .1)
 
-next-atom-requires : tie.Need-next-atom-requires
-next-atom-requires c κs = search needs
+lexed-atom-requires : tie.Need-lexed-atom-requires
+lexed-atom-requires c κs = search needs
 
 returns-2 : tie.Need-returns-2
 returns-2 c = search needs
 
 pub form-word-spec : {M : Type 1} → statement M
-form-word-spec = tie.close (tie.spec name-end-requires returns next-atom-requires returns-2)
+form-word-spec = tie.close (tie.spec name-end-requires returns lexed-atom-requires returns-2)

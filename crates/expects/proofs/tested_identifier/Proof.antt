@@ -9,8 +9,8 @@ use borrow.Author.Needs.{needs}
 use Rattle.expects.proofs.tested_identifier.Statement.{statement}
 use Rattle.expects.proofs.tested_identifier.Tie as tie
 
-next-atom-requires : tie.Need-next-atom-requires
-next-atom-requires c κs = search needs
+lexed-atom-requires : tie.Need-lexed-atom-requires
+lexed-atom-requires c κs = search needs
 
 enum-known-l : tie.Need-enum-known-l
 enum-known-l c = search needs
@@ -21,19 +21,19 @@ enum-known-l-2 c = search needs
 sub-name-test : tie.Need-sub-name-test
 sub-name-test c =
     let k = c .before in
-    let h = atom-inside (k .before .before .before .before .before .args .format) _ _ _ (k .before .before .next-atom .ensures) _ (k .l2 .given .1) in
+    let h = atom-inside (k .before .before .before .before .before .args .format) _ _ _ (k .before .before .lexed-atom .ensures) _ (k .l2 .given .1) in
     omega arith
 
 part-name-test-start : tie.Need-part-name-test-start
 part-name-test-start c =
     let k = c .before in
-    let h = atom-inside (k .before .before .before .before .before .args .format) _ _ _ (k .before .before .next-atom .ensures) _ (k .l2 .given .1) in
+    let h = atom-inside (k .before .before .before .before .before .args .format) _ _ _ (k .before .before .lexed-atom .ensures) _ (k .l2 .given .1) in
     omega arith
 
 part-name-test-end : tie.Need-part-name-test-end
 part-name-test-end c =
     let k = c .before in
-    let h = atom-inside (k .before .before .before .before .before .args .format) _ _ _ (k .before .before .next-atom .ensures) _ (k .l2 .given .1) in
+    let h = atom-inside (k .before .before .before .before .before .args .format) _ _ _ (k .before .before .lexed-atom .ensures) _ (k .l2 .given .1) in
     omega arith
 
 name-test-requires : tie.Need-name-test-requires
@@ -57,20 +57,20 @@ refused-at-requires-2 c κs = search needs
 returns : tie.Need-returns
 returns c =
     let k = c .before in
-    name-refused (edition (k .before .before .before .before .before .args .format)) _ _ _ (k .before .before .next-atom .ensures) _ (k .l .given .1)
+    name-refused (edition (k .before .before .before .before .before .args .format)) _ _ _ (k .before .before .lexed-atom .ensures) _ (k .l .given .1)
 
 returns-2 : tie.Need-returns-2
 returns-2 c =
     let g = c .before .before in
     let k = g .before .before .before in
-    name-tested (edition (k .before .before .before .before .before .args .format)) _ _ _ (k .before .before .next-atom .ensures) _ (k .l2 .given .1) _ (sym (g .name-test .ensures) ∙ c .enum-told .given .1)
+    name-tested (edition (k .before .before .before .before .before .args .format)) _ _ _ (k .before .before .lexed-atom .ensures) _ (k .l2 .given .1) _ (sym (g .name-test .ensures) ∙ c .enum-told .given .1)
 
 returns-3 : tie.Need-returns-3
 returns-3 c =
     λ n.
     let g = c .before .before .before in
     let k = g .before .before .before in
-    name-tested (edition (k .before .before .before .before .before .args .format)) _ _ _ (k .before .before .next-atom .ensures) _ (k .l2 .given .1) _ (sym (g .name-test .ensures) ∙ c .before .enum-told2 .given .1) n
+    name-tested (edition (k .before .before .before .before .before .args .format)) _ _ _ (k .before .before .lexed-atom .ensures) _ (k .l2 .given .1) _ (sym (g .name-test .ensures) ∙ c .before .enum-told2 .given .1) n
     ∙ ap refused (sym (c .refused-at .ensures))
 
 returns-4 : tie.Need-returns-4
@@ -78,14 +78,14 @@ returns-4 c =
     λ n.
     let g = c .before .before .before in
     let k = g .before .before .before in
-    name-tested (edition (k .before .before .before .before .before .args .format)) _ _ _ (k .before .before .next-atom .ensures) _ (k .l2 .given .1) _ (sym (g .name-test .ensures) ∙ c .before .enum-told3 .given .1) n
+    name-tested (edition (k .before .before .before .before .before .args .format)) _ _ _ (k .before .before .lexed-atom .ensures) _ (k .l2 .given .1) _ (sym (g .name-test .ensures) ∙ c .before .enum-told3 .given .1) n
     ∙ ap refused (sym (c .refused-at2 .ensures))
 
 pub tested-identifier-spec : {M : Type 1} → statement M
 tested-identifier-spec =
     tie.close
     (tie.spec
-    next-atom-requires
+    lexed-atom-requires
     enum-known-l
     enum-known-l-2
     sub-name-test

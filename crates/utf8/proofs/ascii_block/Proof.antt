@@ -14,10 +14,10 @@ use Rattle.utf8.proofs.ascii_block.Reads as reads
 use Rattle.utf8.proofs.ascii_block.Lts as lts
 
 abbrev Inv-loop : tie.InvT-loop
-Inv-loop s at greatest₀ i₀ greatest i = (i ≤ 32) × (ascii (take i (drop at s)) ≡ ltb greatest 0x80)
+Inv-loop s at greatest₀ i₀ greatest i = (i ≤ 64) × (ascii (take i (drop at s)) ≡ ltb greatest 0x80)
 
 abbrev μ-loop : tie.MeasureT-loop
-μ-loop s at greatest₀ i₀ greatest i = 32 - i
+μ-loop s at greatest₀ i₀ greatest i = 64 - i
 
 loop-holds : tie.Need-loop-holds Inv-loop μ-loop
 unfolding ascii
@@ -46,7 +46,7 @@ loop-again c =
 returns : tie.Need-returns Inv-loop μ-loop
 returns c =
     let l = c .before .loop in
-    let q : l .i ≡ 32 = omega arith in
+    let q : l .i ≡ 64 = omega arith in
     sym (rw q at (l .inv .1))
 
 pub ascii-block-spec : {M : Type 1} → statement M

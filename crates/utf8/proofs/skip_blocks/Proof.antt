@@ -34,7 +34,7 @@ loop-less : tie.Need-loop-less Inv-loop μ-loop
 loop-less c = omega arith
 
 loop-again : tie.Need-loop-again Inv-loop μ-loop
-loop-again c = same-block _ _ _ (c .before .before .before .loop .inv) 32 (omega arith) (sym (c .before .ascii-block .ensures) ∙ not-false _ (c .if1 .left))
+loop-again c = same-block _ _ _ (c .before .before .before .loop .inv) 64 (omega arith) (sym (c .before .ascii-block .ensures) ∙ not-false _ (c .if1 .left))
 
 returns-2 : tie.Need-returns-2 Inv-loop μ-loop
 returns-2 c = c .before .loop .inv
