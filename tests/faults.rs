@@ -104,17 +104,24 @@ pub fn word_index(word: &[u8]) -> Option<u8> {
         "reserved-by-prefix" => word.starts_with(other),
         "reserved-without-case" => word.eq_ignore_ascii_case(other),
         "reserved-by-both-ends" => by_both_ends(word, other),
+        "reserved-by-the-slot" => word.len().max(other.len()) < 8 && slot(word) == slot(other),
         "one-reserved-word-less" => word == other && word != b"sigma",
         _ => word == other,
     };
     let place = RESERVED.iter().position(|reserved| alike(reserved.as_bytes())).map(|place| place as u8 + 1);
     match fault() {
         "reserved-by-prefix" | "reserved-without-case" | "reserved-by-both-ends" => Some(place.unwrap_or(0)),
-        "one-reserved-word-less" => Some(place.unwrap_or(0)),
+        "one-reserved-word-less" | "reserved-by-the-slot" => Some(place.unwrap_or(0)),
         "index-from-0" => Some(place.map_or(0, |place| place - 1)),
         "arrow-reserved" if word == b"arrow" => Some(27),
         _ => None,
     }
+}
+
+/// The slot in which crates/words looks for a word of fewer than eight bytes.
+fn slot(word: &[u8]) -> u64 {
+    let number = word.iter().rev().fold(1, |number, byte| number * 256 + u64::from(*byte));
+    number % (1 << 32) * 5011 / (1 << 20) % 32
 }
 
 fn by_both_ends(a: &[u8], b: &[u8]) -> bool {
@@ -182,6 +189,7 @@ pub fn valid_beginning(source: &[u8]) -> usize {
     while let Some(&first) = source.get(at) {
         let (length, low, high) = match first {
             0..=0x7f => (1, 0, 0),
+            _ if is("ascii-in-every-64th-byte") && at % 64 == 63 => (1, 0, 0),
             0xc0 | 0xc1 if is("overlong") => (2, 0x80, 0xbf),
             0xc2..=0xdf => (2, 0x80, 0xbf),
             0xe0 if !is("overlong") => (3, 0xa0, 0xbf),

@@ -143,8 +143,8 @@ pub const LOADING: [&str; 87] = [
     "unused-values-left",
 ];
 
-/// Of the classes of bytes, and of layout, comments and names that are read by blocks or in one pass.
-pub const CLASSES: [&str; 9] = [
+/// Of the classes of bytes, and of layout, comments, names and words that are read by blocks, by slots or in one pass.
+pub const CLASSES: [&str; 11] = [
     "byte-96-makes-atoms",
     "byte-127-is-layout",
     "eight-spaces-by-seven",
@@ -154,6 +154,8 @@ pub const CLASSES: [&str; 9] = [
     "digit-begins-a-name-behind-blank",
     "digit-begins-a-name-behind-a-comment",
     "reserved-word-behind-blank-is-a-name",
+    "reserved-by-the-slot",
+    "ascii-in-every-64th-byte",
 ];
 
 /// Of the dependence question: the rows of the declaration that is asked of, what shows a place, the row that is shown, the

@@ -39,6 +39,9 @@ const OTHERS: [&str; 9] = ["\t", "\n", "\r", ";c\n", ";a longer comment\n", "a",
 /// A comment stands before a name.
 const COMMENTED: &str = "{H}(postulate~k nat)";
 const IN_COMMENTS: [&str; 6] = ["\n", "\r", ";", "(", "\0", "\u{e9}"];
+/// A comment of some blocks of 64 bytes, in which UTF-8 is told, and what is not ASCII in it: characters, and what is no UTF-8.
+const LONG_COMMENT: usize = 150;
+const IN_LONG_COMMENTS: [&[u8]; 6] = [b"\xc3\xa9", b"\xe2\x88\x80", b"\xf0\x9d\x84\x9e", b"\x80", b"\xe2\x88", b"\xff"];
 
 /// A name behind layout at `~`, and a reference to it.
 const NAMED: [&str; 5] = [
@@ -52,13 +55,25 @@ const NAMED: [&str; 5] = [
 const ENDED: [&str; 4] = ["(surface 0 1)(module~", "{H}(postulate~", "{H}(postulate b (pi~", "{H}(postulate b (ref~"];
 const BEFORE_NAMES: [&str; 2] = [" ", "  ;c\n"];
 const IN_NAMES: [&str; 7] = ["7", "_", "-", "Z", "[", ";", "("];
+/// A word at `~`: of a declaration, of a form, and by itself; one of them is at the source's end.
+const WORDED: [&str; 7] = [
+    "{H}(~ k nat)",
+    "{H}(~ k nat zero)",
+    "{H}(postulate k ~)",
+    "{H}(postulate k (~ nat))",
+    "{H}(postulate k (~ x nat nat))",
+    "{H}(postulate k (~ 0))",
+    "{H}(postulate k (~",
+];
 /// Lengths of names, and a place in each, for every byte.
 const NAME_PLACES: [(usize, usize); 8] = [(1, 0), (3, 0), (3, 1), (3, 2), (17, 7), (17, 8), (17, 15), (17, 16)];
 
 pub fn run() -> ExitCode {
     let mut comparison = Comparison { tally: Tally::default(), answers: [0; 6] };
-    comparison.part("reserved words and their like as names", Comparison::words);
+    comparison.part("reserved words and their like as names", |comparison| comparison.words(Comparison::named));
+    comparison.part("the same as words", |comparison| comparison.words(Comparison::worded));
     comparison.part("comments", Comparison::comments);
+    comparison.part("long comments", Comparison::long_comments);
     comparison.part("every byte in names", Comparison::bytes_of_names);
     comparison.part("names with one other byte", Comparison::names);
     comparison.part("runs of layout", Comparison::layout);
@@ -132,6 +147,15 @@ impl Comparison {
         }
     }
 
+    fn long_comments(&mut self) {
+        let text = vec![b'c'; LONG_COMMENT];
+        for at in 0..LONG_COMMENT {
+            for other in IN_LONG_COMMENTS {
+                self.check(&filled(COMMENTED, &comment(&replaced(&text, at, other))));
+            }
+        }
+    }
+
     fn names(&mut self) {
         for length in 1..=LONGEST {
             for at in 0..length {
@@ -140,15 +164,15 @@ impl Comparison {
         }
     }
 
-    fn words(&mut self) {
+    fn words(&mut self, check: impl Fn(&mut Self, &[u8])) {
         for word in RESERVED {
             let mut like = vec![word.to_string(), word[1..].to_string(), word[..word.len() - 1].to_string()];
             like.extend(["a", "Z", "0", "_", "-", "-elim"].map(|more| format!("{word}{more}")));
             like.extend(["a", "Z", "0", "_", "-", "nat-"].map(|more| format!("{more}{word}")));
             like.extend([word.to_uppercase(), word.replace('-', "_"), word.replace('-', ""), word.replace('-', "--")]);
-            like.iter().for_each(|word| self.named(word.as_bytes()));
+            like.iter().for_each(|word| check(self, word.as_bytes()));
         }
-        ORDINARY_NAMES.iter().chain(&NO_NAMES).for_each(|word| self.named(word.as_bytes()));
+        ORDINARY_NAMES.iter().chain(&NO_NAMES).for_each(|word| check(self, word.as_bytes()));
     }
 
     /// Layout in every place, and as the last bytes of the source.
@@ -166,6 +190,13 @@ impl Comparison {
             NAMED.iter().for_each(|module| self.check(&filled(module, &[before.as_bytes(), name].concat())));
         }
         ENDED.iter().for_each(|module| self.check(&filled(module, &[b" ", name].concat())));
+    }
+
+    /// A word in every place, with no layout before it and with some.
+    fn worded(&mut self, word: &[u8]) {
+        for before in ["", " ", "\n  "] {
+            WORDED.iter().for_each(|module| self.check(&filled(module, &[before.as_bytes(), word].concat())));
+        }
     }
 
     /// Loads with tables of exactly the sizes that reading needs.

@@ -2,7 +2,9 @@
 use crate::case::Case;
 use crate::chain::{self, Chain, Turns};
 use crate::work::{Work, whos};
+use std::hint::black_box;
 use std::time::{Duration, Instant};
+use sulyterom::WORK_WORDS;
 
 /// Rounds in which all are timed, one behind the other: as many as there is time for, and no fewer than this.
 const ROUNDS: usize = 7;
@@ -24,6 +26,14 @@ pub fn chain_seconds(chain: &Chain) -> [f64; chain::TASKS] {
     let mut quickest = [f64::INFINITY; chain::TASKS];
     time(&mut quickest, |task| turns.turn(task));
     quickest
+}
+
+/// The quickest clearing of a work area by itself.
+pub fn clearing_seconds() -> f64 {
+    let mut area = vec![0; WORK_WORDS];
+    let mut quickest = [f64::INFINITY];
+    time(&mut quickest, |_| black_box::<&mut [u32]>(&mut area).fill(0));
+    quickest[0]
 }
 
 /// Finds the quickest turn of each of several.

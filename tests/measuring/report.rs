@@ -1,6 +1,7 @@
 //! The tables of docs/PERFORMANCE.md.
 use crate::case::{OUTCOMES, Outcome, TASKS, Task};
 use crate::chain::{self, Measured};
+use crate::clock;
 use crate::goals;
 use crate::kinds::Kind;
 use crate::row::{Row, compared, head, line, number, ratio, titles};
@@ -13,6 +14,7 @@ pub fn print(kinds: &[&'static Kind], rows: &[Row], asked: &[Measured], long: &[
         kinds.iter().for_each(|kind| println!("| {} | {} |", kind.name, kind.about));
         println!("\n### The goal, kind by kind");
         TASKS.iter().for_each(|task| goals::print(*task, kinds, rows));
+        println!("\nClearing a work area, by itself, takes {:.2} microseconds.", clock::clearing_seconds() * 1e6);
     }
     if !asked.is_empty() {
         chain::print(asked);
