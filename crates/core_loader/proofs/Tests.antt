@@ -12,13 +12,9 @@ use Rattle.terms.specs.Label.{Declaration}
 use Rattle.surface.specs.Reader.{Position, start, Result, refused, Reader, after, _>>_, pure, require, nowhere, at-offset}
 use Rattle.surface.specs.Tables.{Lengths}
 use Rattle.surface.specs.Loading.{frame-limit}
-use Rattle.surface.proofs.Takes.{require-go}
+use Rattle.surface.proofs.Takes.{require-go, require-stops}
 use Rattle.core_text.specs.TextReading.{read-text}
 use Rattle.core_module.specs.CoreText.{told, repeated, reading-text}
-
-require-stops : {B : Type 0} (t : Bool) (r : Refusal) (p : Position) (k : Unit {0} → Reader B) → t ≡ false → after (require t r p) k ≡ refused r
-require-stops true r p k e = absurd (let z : _≡_ {A = ℕ} 0 1 = cc in omega arith)
-require-stops false r p k e = refl
 
 -- The test of the names.
 abbrev pub tested : List ℕ → List Declaration → Reader (List Declaration)

@@ -15,13 +15,9 @@ use Rattle.terms.specs.Resolution.{RefusedName, first-refused}
 use Rattle.surface.specs.Reader.{Position, start, Result, done, refused, Reader, after, require, nowhere, at-offset}
 use Rattle.surface.specs.Reading.{read-module}
 use Rattle.surface.specs.Loading.{Lengths, frame-limit, parsing, reading, accept, loading}
-use Rattle.surface.proofs.Takes.{require-go}
+use Rattle.surface.proofs.Takes.{require-go, require-stops}
 use Rattle.reader.specs.Reads.{ReadsModule}
 use Rattle.reader.specs.declared.ModuleRead.{ModuleRead}
-
-require-stops : {B : Type 0} (t : Bool) (r : Refusal) (p : Position) (k : Unit {0} → Reader B) → t ≡ false → after (require t r p) k ≡ refused r
-require-stops true r p k e = absurd (let z : _≡_ {A = ℕ} 0 1 = cc in omega arith)
-require-stops false r p k e = refl
 
 module _ (s : List ℕ) (z : Lengths) where
   pub parse-area : z .work < 16384 → parsing s z start ≡ refused (nowhere 11)

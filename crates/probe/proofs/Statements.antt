@@ -22,7 +22,7 @@ atom-told (b ∷ l) start at = atom-by Told (byte-class b) start at _ refl refl 
 here-told : (l : List ℕ) (at : ℕ) → Told (token-here at l)
 unfolding token-here
 here-told [] at = refl
-here-told (b ∷ l) at = here-by Told (byte-class b) at _ refl (λ e. refl) refl (atom-told l at (at + 1))
+here-told (b ∷ l) at = here-by Told (byte-class b) at _ refl (λ e. refl) (λ e. refl) (atom-told l at (at + 1))
 
 pub token-reports : TokenReports
 unfolding next-token

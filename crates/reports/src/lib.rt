@@ -2,6 +2,7 @@
 use binding::Binding;
 use dependence::Dependence;
 use lister::Listed;
+use module_name::ModuleName;
 use printing::Printed;
 use reader::ModuleRead;
 use same::Comparison;
@@ -16,6 +17,7 @@ ghost use Rattle.dependence.specs.Asks.{report-dependence};
 ghost use Rattle.surface.specs.Reports.{offsets, report-refusal, report, token-number, report-token};
 ghost use Rattle.loader.specs.Parsed.{report-read};
 ghost use Rattle.binding.specs.Binds.{report-binding};
+ghost use Rattle.module_name.specs.ModuleName.{report-module-name};
 ghost use Rattle.printing.specs.PrintCall.{report-printed};
 ghost use Rattle.same.specs.Comparison.{report-comparison};
 ghost use Rattle.reports.specs.Numbers.{numbers, words, told, report-listed};
@@ -134,6 +136,16 @@ pub fn report_binding(answer: Binding) -> Numbers
             third: 0,
         },
         Binding::Refused(refusal) => report_refusal(refusal),
+    }
+}
+
+// The module's name: where it starts, and its length.
+pub fn report_module_name(answer: ModuleName) -> Numbers
+    ensures { λ r. ⌜ r ≡ numbers (report-module-name answer) ⌝ }
+{
+    match answer {
+        ModuleName::Named { start, length } => report_two(start, length),
+        ModuleName::Refused(refusal) => report_refusal(refusal),
     }
 }
 

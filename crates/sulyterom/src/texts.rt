@@ -1,11 +1,14 @@
-// The listing, and the tokens of a source.
+// The listing, the tokens of a source, and its module's name.
 use reports::report_listed;
+use reports::report_module_name;
 use reports::report_token;
+use reports::tell;
 use reports::tell_all;
 ghost use mathlib.Core.Path.{_≡_};
 ghost use Rattle.surface.specs.Tables.{tables};
 ghost use Rattle.token.specs.Token.{next-token};
 ghost use Rattle.lister.specs.Lists.{Lists};
+ghost use Rattle.module_name.specs.ModuleName.{module-name, report-module-name};
 ghost use Rattle.surface.specs.Reports.{report-token};
 ghost use Rattle.reports.specs.Numbers.{report-listed, Told};
 
@@ -42,4 +45,15 @@ pub extern "C" fn sulyterom_token(source: &[u8], at: usize, answer: &mut [u64]) 
     let lexed = read.lexed;
     let numbers = report_token(lexed);
     tell_all(answer, numbers)
+}
+
+// The module's name, from the head of a source: where it starts, and its length; or the refusal of the whole source, where there is no good
+// head. No table is lent, and nothing behind a good head is looked at. `answer` takes three numbers.
+#[no_mangle]
+pub extern "C" fn sulyterom_head(source: &[u8], answer: &mut [u64]) -> u8
+    ensures { λ r. ⌜ Told (λ a. a ≡ module-name (now (source .entry))) report-module-name 3 (now (answer .entry)) r (now (answer .exit)) ⌝ }
+{
+    let found = head::head(source);
+    let numbers = report_module_name(found);
+    tell(answer, numbers)
 }

@@ -26,7 +26,7 @@ use Rattle.surface.proofs.SoundModule.{sound}
 use Rattle.surface.proofs.CompleteModule.{complete}
 
 -- All of a source is UTF-8 exactly if its longest valid beginning is as long as it is.
-whole-valid : (s : List ℕ) → (valid-length s ≡ length s) ↔ WellFormed s
+pub whole-valid : (s : List ℕ) → (valid-length s ≡ length s) ↔ WellFormed s
 whole-valid s = (
   λ e. subst WellFormed (ap (λ (n : ℕ). take n s) e ∙ take-length s) (valid-is-whole s .1),
   λ w. omega (arith, valid-is-whole s .0, valid-is-longest s (length s) (omega arith) (subst WellFormed (sym (take-length s)) w)),

@@ -29,11 +29,11 @@ module _ (s : List ℕ) (z : Lengths) where
   refused-blank (refused x) r e = refl
   refused-blank (done ds q) r e = absurd (let n : _≡_ {A = ℕ} 0 1 = cc in omega arith)
 
-  by-definition : (Accepts (load s z) ↔ Acceptable s z) × ((r : Refusal) → load s z .answer ≡ Answer.Refused r → load s z .tables ≡ blank z)
+  pub accepts-exactly : (Accepts (load s z) ↔ Acceptable s z) × ((r : Refusal) → load s z .answer ≡ Answer.Refused r → load s z .tables ≡ blank z)
   unfolding load
-  by-definition = ((accepts (loading s z start) refl, accepted (loading s z start) refl), refused-blank (loading s z start))
+  accepts-exactly = ((accepts (loading s z start) refl, accepted (loading s z start) refl), refused-blank (loading s z start))
 
 pub demand-1 : Demand1
 demand-1 s before a after e =
     subst (λ (o : Outcome). (Accepts o ↔ Acceptable s (lengths before)) × ((r : Refusal) → o .answer ≡ Answer.Refused r → o .tables ≡ blank (lengths before)))
-    (sym e) (by-definition s (lengths before))
+    (sym e) (accepts-exactly s (lengths before))

@@ -6,6 +6,7 @@ pub mod TokenSizes
 pub mod Frames
 pub mod Sound
 pub mod SoundDeclarations
+pub mod Runs
 pub mod SoundModule
 pub mod Complete
 pub mod CompleteDeclarations

@@ -1,6 +1,6 @@
 -- A head and a module that are read are what the grammar says.
 use mathlib.Core.Path.{_≡_, refl, sym, ap, _∙_, subst}
-use mathlib.Core.List.{List, _∷_}
+use mathlib.Core.List.{List, [], _∷_, _++_}
 use mathlib.Core.Option.{Option, none, some}
 use mathlib.Core.Bool.{Bool, true, false, _&&_}
 use Prim.Native.Nat.{ℕ, _≤_}
@@ -20,11 +20,12 @@ use Rattle.surface.specs.Reader.{Position, start, done}
 use Rattle.surface.specs.Reading.{opening, closing, word, natural, name, declarations, Head as HeadRead, edition-of, supported, surface-line, module-line, head as head-reader, read-module}
 use Rattle.surface.proofs.Frames.{deepest}
 use Rattle.surface.proofs.Shaped.{version-tokens}
-use Rattle.surface.proofs.Steps.{Took, no-done, after-elim, done-inj, done-as, open-goes, close-goes, atom-goes, before, same-rows, opening-done, closing-done, word-done, natural-done, name-done}
+use Rattle.surface.proofs.Steps.{Took, no-done, after-elim, done-inj, done-as, open-goes, close-goes, atom-goes, same-rows, opening-done, closing-done, word-done, natural-done, name-done}
+use Rattle.surface.proofs.Runs.{Run, run-end, run-before, run-tokens}
 use Rattle.surface.proofs.SoundDeclarations.{declarations-done}
 
 -- An edition that reading supports is the grammar's.
-edition-is : (s : List ℕ) (a b : Token) (E : Edition) → edition-of (text s a) (text s b) ≡ some E → Numeral s a → Numeral s b → Version s a b E
+pub edition-is : (s : List ℕ) (a b : Token) (E : Edition) → edition-of (text s a) (text s b) ≡ some E → Numeral s a → Numeral s b → Version s a b E
 unfolding edition-of
 edition-is s a b E e m n = go (same-bytes (text s a) (ascii "0")) (same-bytes (text s b) (ascii "1")) refl refl e
   where
@@ -34,16 +35,21 @@ edition-is s a b E e m n = go (same-bytes (text s a) (ascii "0")) (same-bytes (t
     go true false p q f = absurd (let z : _≡_ {A = ℕ} 0 1 = cc in omega arith)
     go false y p q f = absurd (let z : _≡_ {A = ℕ} 0 1 = cc in omega arith)
 
-supported-done : {P : Type 0} (o : Option Edition) (p q : Position) (E : Edition) → supported o p ≡ done E q → (o ≡ some E → p ≡ q → P) → P
+pub supported-done : {P : Type 0} (o : Option Edition) (p q : Position) (E : Edition) → supported o p ≡ done E q → (o ≡ some E → p ≡ q → P) → P
 unfolding supported
 supported-done none p q E e k = no-done e
 supported-done (some F) p q E e k = let i = done-inj e in k (ap {B = Option Edition} some (i .0)) (i .1)
 
--- The head, in front of the tokens that follow it.
+-- The nine tokens of the head. It is the same head in front of the tokens that follow it.
 pub record HeadDone (s : List ℕ) (p : Position) (h : HeadRead) (q : Position) : Type 0 where
-  pub derived : (ts : List Token) → Tokens (next-token s) (q .offset) ts → (us : List Token) × Tokens (next-token s) (p .offset) us × Head s us (h .edition) (h .name) ts
+  pub nine : List Token
+  pub run : Run (next-token s) (p .offset) nine (q .offset)
+  pub derived : Head s nine (h .edition) (h .name) []
   pub rows : q .rows ≡ p .rows
   pub tokens : h .edition .tokens ≡ next-token
+
+pub head-before : {s : List ℕ} {ts : List Token} {E : Edition} {x : Token} → Head s ts E x [] → (us : List Token) → Head s (ts ++ us) E x us
+head-before (head o₁ o₂ v o₅ o₆ o₇ o₈ o₉) us = head o₁ o₂ v o₅ o₆ o₇ o₈ o₉
 
 pub head-done : (s : List ℕ) (p q : Position) (h : HeadRead) → head-reader s p ≡ done h q → HeadDone s p h q
 unfolding head-reader surface-line module-line
@@ -72,14 +78,13 @@ head-done s p q h e =
     let v₁ = edition-is s a b E v (o₃ .1) (o₄ .1) in
     let i₅ : Took (next-token s) r₂ y r₃ = subst (λ (T : List ℕ → ℕ → Lexed). Took (T s) r₂ y r₃) (version-tokens v₁) (i₃ .0) in
     done-as (HeadDone s p) e₂ (done-as (λ x r. HeadDone s p (record { edition = E; name = x }) r) l₄ (record {
-      derived = λ ts k. (
-        o ∷ w ∷ a ∷ b ∷ c ∷ u ∷ m ∷ y ∷ d ∷ ts,
-        before (next-token s) p p₁ o _ (o₁ .0) (open-goes _ (o₁ .1)) (before (next-token s) p₁ p₂ w _ (o₂ .0) (atom-goes _ (o₂ .1 .atom)) (before (next-token s) p₂ p₃ a _ (o₃ .0) (atom-goes _ (o₃ .1 .atom))
-            (before (next-token s) p₃ p₄ b _ (o₄ .0) (atom-goes _ (o₄ .1 .atom)) (before (next-token s) p₄ p₅ c _ (o₅ .0) (close-goes _ (o₅ .1)) (subst (λ (r : Position). Tokens (next-token s) (r .offset) (u ∷ m ∷ y ∷ d ∷ ts)) (sym j)
-            (before (next-token s) q₁ r₁ u _ (i₁ .0) (open-goes _ (i₁ .1)) (before (next-token s) r₁ r₂ m _ (i₂ .0) (atom-goes _ (i₂ .1 .atom)) (before (next-token s) r₂ r₃ y _ i₅ (atom-goes _ (i₃ .1 .atom))
-            (before (next-token s) r₃ r₅ d _ (i₄ .0) (close-goes _ (i₄ .1)) k))))))))),
-        head (o₁ .1) (o₂ .1) v₁ (o₅ .1) (i₁ .1) (i₂ .1) (i₃ .1) (i₄ .1),
-      );
+      nine = o ∷ w ∷ a ∷ b ∷ c ∷ u ∷ m ∷ y ∷ d ∷ [];
+      run =
+          run-before p p₁ o (o₁ .0) (open-goes _ (o₁ .1)) (run-before p₁ p₂ w (o₂ .0) (atom-goes _ (o₂ .1 .atom)) (run-before p₂ p₃ a (o₃ .0) (atom-goes _ (o₃ .1 .atom))
+          (run-before p₃ p₄ b (o₄ .0) (atom-goes _ (o₄ .1 .atom)) (run-before p₄ p₅ c (o₅ .0) (close-goes _ (o₅ .1)) (subst (λ (r : Position). Run (next-token s) (r .offset) (u ∷ m ∷ y ∷ d ∷ []) (r₅ .offset)) (sym j)
+          (run-before q₁ r₁ u (i₁ .0) (open-goes _ (i₁ .1)) (run-before r₁ r₂ m (i₂ .0) (atom-goes _ (i₂ .1 .atom)) (run-before r₂ r₃ y i₅ (atom-goes _ (i₃ .1 .atom))
+          (run-before r₃ r₅ d (i₄ .0) (close-goes _ (i₄ .1)) run-end)))))))));
+      derived = head (o₁ .1) (o₂ .1) v₁ (o₅ .1) (i₁ .1) (i₂ .1) (i₃ .1) (i₄ .1);
       rows = same-rows (next-token s) r₃ r₅ d (i₄ .0) ∙ same-rows (next-token s) r₂ r₃ y i₅ ∙ same-rows (next-token s) r₁ r₂ m (i₂ .0) ∙ same-rows (next-token s) q₁ r₁ u (i₁ .0) ∙ ap (λ (r : Position). r .rows) (sym j)
           ∙ same-rows (next-token s) p₄ p₅ c (o₅ .0) ∙ same-rows (next-token s) p₃ p₄ b (o₄ .0) ∙ same-rows (next-token s) p₂ p₃ a (o₃ .0) ∙ same-rows (next-token s) p₁ p₂ w (o₂ .0) ∙ same-rows (next-token s) p p₁ o (o₁ .0);
       tokens = version-tokens v₁;
@@ -99,15 +104,15 @@ sound s limit room frames ds q e =
     after-elim (head-reader s start) _ ds q e (λ h p f e₁.
     let a = head-done s start p h f in
     let b = declarations-done (h .edition) s limit frames room p q ds e₁ in
-    let c = a .derived (b .derived .tokens) (subst (λ (T : List ℕ → ℕ → Lexed). Tokens (T s) (p .offset) (b .derived .tokens)) (a .tokens) (b .derived .lexed)) in
+    let rest = b .derived .tokens in
     record {
       derives = record {
-        tokens = c .0;
-        lexed = c .1;
+        tokens = a .nine ++ rest;
+        lexed = run-tokens (a .run) (subst (λ (T : List ℕ → ℕ → Lexed). Tokens (T s) (p .offset) rest) (a .tokens) (b .derived .lexed));
         edition = h .edition;
         name = h .name;
-        rest = b .derived .tokens;
-        head = c .2;
+        rest = rest;
+        head = head-before (a .derived) rest;
         declarations = b .derived .derived;
       };
       rows = b .rows ∙ ap (λ (m : ℕ). total m ds) (a .rows);

@@ -2,7 +2,7 @@
 use mathlib.Core.Path.{_≡_, refl, ap, _∙_}
 use mathlib.Core.List.{List, _∷_}
 use mathlib.Core.Option.{Option}
-use mathlib.Core.Bool.{Bool, true, not}
+use mathlib.Core.Bool.{Bool, true, false, not}
 use Prim.Native.Nat.{ℕ}
 use Rattle.token.specs.declared.TokenKind.{TokenKind}
 use Rattle.token.specs.declared.Token.{Token}
@@ -14,7 +14,7 @@ use Rattle.words.proofs.Names.{eq-same}
 use Rattle.terms.specs.Forms.{Shape, alone, with-name, with-numeral, binding, plain, Form, Edition}
 use Rattle.surface.specs.Text.{text, label-with, label-alone, is-open, is-close, is-atom}
 use Rattle.surface.specs.Grammar.{Tokens, the-next, Opens, Closes, Word, Numeral, Name, Tag}
-use Rattle.surface.specs.Reader.{Position, Result, done, Reader, after, require}
+use Rattle.surface.specs.Reader.{Position, Result, done, refused, Reader, after, require}
 use Rattle.surface.specs.Reading.{Beginning, leaf, frame, lexed, token, opening, closing, atom, word, natural, name, bare, tagged, known, beginning-on, beginning}
 
 pub after-go : {A B : Type 0} (x : Result A) (k : A → Reader B) (a : A) (p : Position) (o : Result B) → x ≡ done a p → k a p ≡ o → after x k ≡ o
@@ -22,6 +22,9 @@ after-go x k a p o e f = ap (λ y. after y k) e ∙ f
 
 pub require-go : {B : Type 0} (t : Bool) (r : Refusal) (p : Position) (k : Unit {0} → Reader B) (o : Result B) → t ≡ true → k tt p ≡ o → after (require t r p) k ≡ o
 require-go t r p k o e f = ap (λ y. after (require y r p) k) e ∙ f
+
+pub require-stops : {B : Type 0} (t : Bool) (r : Refusal) (p : Position) (k : Unit {0} → Reader B) → t ≡ false → after (require t r p) k ≡ refused r
+require-stops t r p k e = ap (λ y. after (require y r p) k) e
 
 -- The position behind a token.
 abbrev pub to : Position → Token → Position

@@ -19,7 +19,7 @@ abbrev pub Sized : List Token → Type 0
 Sized [] = Unit {0}
 Sized (t ∷ ts) = (t .start < t .end) × Sized ts
 
-span-of : (k : TokenKind) (lo a e hi : ℕ) → SpanOf k lo a e hi → ¬ (k ≡ TokenKind.Eof) → Span lo a e hi
+pub span-of : (k : TokenKind) (lo a e hi : ℕ) → SpanOf k lo a e hi → ¬ (k ≡ TokenKind.Eof) → Span lo a e hi
 span-of TokenKind.LParen lo a e hi h n = h
 span-of TokenKind.RParen lo a e hi h n = h
 span-of TokenKind.Atom lo a e hi h n = h

@@ -66,7 +66,7 @@ unfolding token-here
 here-span [] lo p hi h k e = λ f. let g : p ≤ hi = k f in (omega arith, omega arith)
 here-span (b ∷ l) lo p hi h k e =
     let one : Span lo p (p + 1) hi = record { low = h; some = omega arith; high = omega arith } in
-    here-by (Within lo hi) (byte-class b) p _ tt (λ q. one) one (atom-span l lo p (p + 1) hi h (omega arith) (omega arith))
+    here-by (Within lo hi) (byte-class b) p _ tt (λ q. one) (λ q. one) (atom-span l lo p (p + 1) hi h (omega arith) (omega arith))
 
 pub bounds : (s : List ℕ) (at : ℕ) → Within at (length s) (next-token s at)
 unfolding next-token

@@ -126,7 +126,7 @@ module _ (b : ℕ) where
   unfolding class-number
   name-start h = begins-name (byte-class b) (letter b || eqb b 95) (digit b) h
 
--- The class of an opening parenthesis is given by one byte.
+-- The class of either parenthesis is given by one byte.
 abbrev classes : Bool → Bool → Bool → Bool → Bool → ByteClass
 classes l c o p a = cond l Layout (cond c Comment (cond o LParen (cond p RParen (cond a Atom Refused))))
 
@@ -141,6 +141,18 @@ open-third false false false true a e = absurd (apart cc)
 open-third false false false false true e = absurd (apart cc)
 open-third false false false false false e = absurd (apart cc)
 
+close-fourth : (l c o p a : Bool) → classes l c o p a ≡ RParen → p ≡ true
+close-fourth true c o p a e = absurd (apart cc)
+close-fourth false true o p a e = absurd (apart cc)
+close-fourth false false true p a e = absurd (apart cc)
+close-fourth false false false true a e = refl
+close-fourth false false false false true e = absurd (apart cc)
+close-fourth false false false false false e = absurd (apart cc)
+
 pub open-byte : (b : ℕ) → byte-class b ≡ LParen → b ≡ 40
 unfolding byte-class
 open-byte b e = eqb-true b 40 (open-third (layout-byte b) (eqb b 59) (eqb b 40) (eqb b 41) (atom-byte b) e)
+
+pub close-byte : (b : ℕ) → byte-class b ≡ RParen → b ≡ 41
+unfolding byte-class
+close-byte b e = eqb-true b 41 (close-fourth (layout-byte b) (eqb b 59) (eqb b 40) (eqb b 41) (atom-byte b) e)

@@ -6,6 +6,7 @@ pub mod ClassRuns
 pub mod Outcomes
 pub mod Bounds
 pub mod Parentheses
+pub mod Local
 mod Blocks
 mod CommentBlocks
 mod SpaceBlocks

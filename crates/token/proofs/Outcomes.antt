@@ -26,7 +26,7 @@ atom-by P Refused start at o a m h = m
 
 -- Where a token starts.
 pub here-by : (P : Lexed → Type 0) (k : ByteClass) (at : ℕ) (o : Lexed) → P (malformed at)
-    → (k ≡ LParen → P (token TokenKind.LParen at (at + 1))) → P (token TokenKind.RParen at (at + 1)) → P o
+    → (k ≡ LParen → P (token TokenKind.LParen at (at + 1))) → (k ≡ RParen → P (token TokenKind.RParen at (at + 1))) → P o
     → P (elim k as (λ _. Lexed) [
       | Layout ↦ malformed at
       | Comment ↦ malformed at
@@ -38,6 +38,6 @@ pub here-by : (P : Lexed → Type 0) (k : ByteClass) (at : ℕ) (o : Lexed) → 
 here-by P Layout at o m l r h = m
 here-by P Comment at o m l r h = m
 here-by P LParen at o m l r h = l refl
-here-by P RParen at o m l r h = r
+here-by P RParen at o m l r h = r refl
 here-by P Atom at o m l r h = h
 here-by P Refused at o m l r h = m

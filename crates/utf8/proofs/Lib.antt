@@ -6,3 +6,4 @@ mod Passed
 mod Runs
 mod Mark
 pub mod Longest
+pub mod Beginnings

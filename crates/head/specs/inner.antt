@@ -1,0 +1,2 @@
+-- Definitions that only contracts of inner functions cite: nobody has to believe them.
+pub mod InHead

@@ -1,0 +1,2 @@
+pub mod ModuleName
+pub mod Statements
