@@ -1,6 +1,6 @@
 /* sulyterom.h: loads a hott-surface/0.1 source into a numbered core module that a kernel can check, tells which
-   declarations depend on which and what binds a reference, and writes and reads core text, by which stations exchange
-   core modules.
+   declarations depend on which, what binds a reference and how a module is named, and writes and reads core text, by
+   which stations exchange core modules.
 
    `rt staticlib sulyterom` makes target/staticlib/libsulyterom.a for x86-64 Linux. Link it:
 
@@ -44,9 +44,9 @@
 
 /* The version of this header and of the library beside it. */
 #define SULYTEROM_VERSION_MAJOR 0
-#define SULYTEROM_VERSION_MINOR 5
+#define SULYTEROM_VERSION_MINOR 6
 #define SULYTEROM_VERSION_PATCH 0
-#define SULYTEROM_VERSION_TEXT "0.5.0"
+#define SULYTEROM_VERSION_TEXT "0.6.0"
 
 #ifdef __cplusplus
 extern "C" {
@@ -84,6 +84,7 @@ extern "C" {
 #define SULYTEROM_ANSWER_WORDS 3
 #define SULYTEROM_LONG_ANSWER_WORDS 4 /* of sulyterom_list and sulyterom_token */
 #define SULYTEROM_LONGEST_SOURCE 65535     /* bytes */
+#define SULYTEROM_HEAD_BYTES 65536         /* of a file, with which sulyterom_head answers as with all of it */
 #define SULYTEROM_LONGEST_TEXT 4294967295u /* bytes of a core text that is read */
 #define SULYTEROM_MOST_FRAMES 512          /* forms open at the same time in one type or body */
 #define SULYTEROM_STACK_BYTES 32768        /* that a call stays below */
@@ -253,6 +254,17 @@ uint8_t sulyterom_list(const uint8_t *source, size_t source_length, uint32_t *su
 uint8_t sulyterom_token(const uint8_t *source, size_t source_length, size_t at, uint64_t *answer,
                         size_t answer_length);
 
+/* The module's name, from the head of a source: that in the shortest beginning of the source that would be accepted by
+   itself. It ends at the module line's parenthesis, and nothing behind it is looked at: there the source may hold
+   anything and go on over SULYTEROM_LONGEST_SOURCE bytes. For a source that loads it is the name with which loading
+   begins, and keeps not. No table is lent, and a file need not be read whole: a name that its beginning gives is the
+   file's, and with SULYTEROM_HEAD_BYTES bytes of it, or all where there are fewer, a refusal is the file's too.
+
+   A name: returns 0 and leaves in answer 2, the offset of its first byte, its length. Refused, where there is no such
+   beginning: returns the class with which the whole source is refused, 1, 2, 3 or 6, and leaves what sulyterom_load
+   leaves: 6 by the length, then 1 where it is not UTF-8, then what the head is refused for. */
+uint8_t sulyterom_head(const uint8_t *source, size_t source_length, uint64_t *answer, size_t answer_length);
+
 /* Asks whether the declaration at place i depends on the one at place j: whether some global row in i's type or body
    names a place that shows j. Place k shows j if k is j, or if a global row in k's type, or in k's body where k is
    transparent, names a place that shows j. So i's own body counts whatever its kind, and an opaque body of a
@@ -401,6 +413,15 @@ typedef struct sulyterom_token_read {
     size_t end;
 } sulyterom_token_read;
 
+/* What sulyterom_head_of answers. */
+typedef struct sulyterom_module_name {
+    sulyterom_class refused;
+    int has_offset;
+    size_t offset;
+    size_t start;  /* of the name in the source */
+    size_t length; /* of the name; 0 after a refusal */
+} sulyterom_module_name;
+
 /* What sulyterom_depends_in answers. */
 typedef struct sulyterom_dependence {
     sulyterom_class refused;
@@ -500,6 +521,21 @@ static inline sulyterom_token_read sulyterom_token_at(const uint8_t *source, siz
         told.start = (size_t)answer[2];
         told.end = (size_t)answer[3];
     } else {
+        told.offset = (size_t)answer[1];
+    }
+    return told;
+}
+
+/* As sulyterom_head. */
+static inline sulyterom_module_name sulyterom_head_of(const uint8_t *source, size_t source_length) {
+    uint64_t answer[SULYTEROM_ANSWER_WORDS] = {0, 0, 0};
+    sulyterom_module_name told = {SULYTEROM_ACCEPTED, 0, 0, 0, 0};
+    told.refused = (sulyterom_class)sulyterom_head(source, source_length, answer, SULYTEROM_ANSWER_WORDS);
+    if (told.refused == SULYTEROM_ACCEPTED) {
+        told.start = (size_t)answer[1];
+        told.length = (size_t)answer[2];
+    } else {
+        told.has_offset = answer[0] == 1;
         told.offset = (size_t)answer[1];
     }
     return told;

@@ -1,6 +1,6 @@
 //! Loading by the Rattle library against document 01 and the Rust:
 //! loading replay [FOLDER], card, compare [COUNT [SEED]], classes, dependence [COUNT [SEED]], binder [COUNT [SEED]],
-//! same [COUNT [SEED]], program EVERY PROGRAM.
+//! same [COUNT [SEED]], head [COUNT [SEED]], program EVERY PROGRAM.
 #[cfg(mock)]
 #[allow(dead_code)]
 mod faults;
@@ -18,6 +18,8 @@ mod loading {
     pub mod edges;
     pub mod expected;
     pub mod generated;
+    pub mod head;
+    pub mod heads;
     #[cfg(not(mock))]
     pub mod library;
     pub mod listing;
@@ -49,6 +51,7 @@ fn main() -> ExitCode {
         Some("program") if words.len() > 2 => loading::program::run(number(1, 1), &words[2..]),
         Some("dependence") => loading::dependence::run(number(1, loading::dependence::COUNT), number(2, 4) as u64),
         Some("binder") => loading::binder::run(number(1, loading::binder::COUNT), number(2, 6) as u64),
+        Some("head") => loading::head::run(number(1, loading::head::COUNT), number(2, 7) as u64),
         Some("same") => loading::same::run(number(1, loading::same::COUNT), number(2, 5) as u64),
         #[cfg(mock)]
         Some("--faults") => print_all(&common::fault::LOADING),
@@ -59,6 +62,8 @@ fn main() -> ExitCode {
         #[cfg(mock)]
         Some("--binder-faults") => print_all(&common::fault::BINDER),
         #[cfg(mock)]
+        Some("--head-faults") => print_all(&common::fault::HEAD),
+        #[cfg(mock)]
         Some("--same-faults") => print_all(&common::fault::SAME),
         #[cfg(mock)]
         Some("--listing-faults") => print_all(&common::fault::LISTING),
@@ -68,7 +73,7 @@ fn main() -> ExitCode {
         _ => loading::mock::listing::command(&words),
         #[cfg(not(mock))]
         _ => {
-            let parts = ["compare", "dependence", "binder", "same"].map(|part| format!("{part} [COUNT [SEED]]"));
+            let parts = ["compare", "dependence", "binder", "same", "head"].map(|part| format!("{part} [COUNT [SEED]]"));
             eprintln!(
                 "usage: loading replay [FOLDER] | card | classes | {} | program EVERY PROGRAM",
                 parts.join(" | ")

@@ -13,7 +13,10 @@ pub struct Atom<'a> {
 impl<'a> Atom<'a> {
     /// The atom whose start and length stand in two words of a row or record.
     pub(crate) fn new(source: &'a [u8], words: &[u32]) -> Self {
-        let (start, length) = (words[0] as usize, words[1] as usize);
+        Self::at(source, words[0] as usize, words[1] as usize)
+    }
+
+    pub(crate) fn at(source: &'a [u8], start: usize, length: usize) -> Self {
         Self { start, bytes: &source[start..start + length] }
     }
 

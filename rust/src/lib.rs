@@ -45,6 +45,13 @@
 //! # Ok::<(), sulyterom::Refusal>(())
 //! ```
 //!
+//! A station's index needs only the module's name, which [`head`] gives from the beginning of a file:
+//!
+//! ```
+//! assert_eq!(sulyterom::head(b"(surface 0 1)(module shelf)(postulate x ..")?.as_str(), "shelf");
+//! # Ok::<(), sulyterom::Refusal>(())
+//! ```
+//!
 //! A [`Loader`] has tables of its own and grows them. Where memory is lent by someone else, or is to have a limit, the
 //! functions [`load`], [`depends`], [`binder`], [`same`], [`print`], [`read_core`] and [`read_canonical`] take [`Tables`] of
 //! any sizes.
@@ -63,6 +70,7 @@ mod comparison;
 mod core_text;
 mod declaration;
 mod dependence;
+mod head;
 mod library;
 mod listing;
 mod loaded;
@@ -80,6 +88,7 @@ pub use comparison::Comparison;
 pub use core_text::{CoreText, TextRow};
 pub use declaration::{Declaration, DeclarationKind};
 pub use dependence::Dependence;
+pub use head::{HEAD_BYTES, head};
 pub use listing::Listing;
 pub use loaded::Loaded;
 pub use loader::Loader;

@@ -143,6 +143,8 @@ unsafe extern "C" {
         answer: *mut u64,
         answer_length: usize,
     ) -> u8;
+
+    fn sulyterom_head(source: *const u8, source_length: usize, answer: *mut u64, answer_length: usize) -> u8;
 }
 
 /// A class, 0 for an acceptance, a yes and a no; how many values follow, and the values.
@@ -350,5 +352,13 @@ pub fn token(source: &[u8], at: usize) -> (u8, [u64; 4]) {
     let mut answer = [0; 4];
     // SAFETY: as above; any offset may be asked of.
     let class = unsafe { sulyterom_token(source.as_ptr(), source.len(), at, answer.as_mut_ptr(), answer.len()) };
+    (class, answer)
+}
+
+/// The class, 0 for a name; how many values follow, and the values: the name's start and length.
+pub fn head(source: &[u8]) -> Told {
+    let mut answer = [0; 3];
+    // SAFETY: as above.
+    let class = unsafe { sulyterom_head(source.as_ptr(), source.len(), answer.as_mut_ptr(), answer.len()) };
     (class, answer)
 }

@@ -256,6 +256,26 @@ pub const LISTING: [&str; 15] = [
     "usage-with-status-0",
 ];
 
+/// Of the module's name from the head.
+pub const HEAD: [&str; 16] = [
+    "head-utf8-of-all-first",
+    "head-six-first",
+    "head-of-the-whole-only",
+    "head-own-refusal-first",
+    "head-length-one-off",
+    "head-tells-the-end",
+    "head-start-of-the-word",
+    "head-utf8-not-in-comments",
+    "head-over-by-a-byte",
+    "head-short-by-a-byte",
+    "head-mark-skipped",
+    "head-looks-behind",
+    "head-utf8-before-six",
+    "head-without-six",
+    "head-utf8-not-behind",
+    "head-reserved-taken",
+];
+
 /// Of printing core text.
 pub const PRINTING: [&str; 22] = [
     "semantic-head",
@@ -371,7 +391,7 @@ pub fn fault() -> &'static str {
     FAULT.get_or_init(|| {
         let name = std::env::var("FAULT").unwrap_or_default();
         let known =
-            [&TEXT[..], &LOADING, &CLASSES, &DEPENDENCE, &BINDER, &SAME, &LISTING, &PRINTING, &READING].concat();
+            [&TEXT[..], &LOADING, &CLASSES, &DEPENDENCE, &BINDER, &SAME, &HEAD, &LISTING, &PRINTING, &READING].concat();
         assert!(name.is_empty() || known.contains(&name.as_str()), "no fault is called {name}");
         name
     })

@@ -25,6 +25,11 @@ pub fn binder(source: &[u8], row: usize, lent: Tables<&mut [u32]>, answer: &mut 
     numbers(bound, answer)
 }
 
+/// The module's name: the class, 0 for a name; the answer is 2, its start and its length.
+pub fn head(source: &[u8], answer: &mut [u64; 3]) -> u8 {
+    numbers(sulyterom::head(source).map(|name| [2, name.start as u64, name.bytes.len() as u64]), answer)
+}
+
 pub fn tables(lent: Tables<&mut [u32]>) -> sulyterom::Tables<&mut [u32]> {
     let Tables { surface, core, declarations, work } = lent;
     sulyterom::Tables::from_words(surface, core, declarations, work)

@@ -2,6 +2,7 @@
 //! to see them fail by the mistakes of `common::fault`.
 mod binder;
 mod dependence;
+pub mod head;
 pub mod listing;
 mod reading;
 mod resolving;
@@ -75,6 +76,10 @@ pub fn binder(source: &[u8], row: usize, mut lent: Tables<&mut [u32]>, answer: &
         lent.work[0] = 1;
     }
     report(outcome, answer)
+}
+
+pub fn head(source: &[u8], answer: &mut [u64; 3]) -> u8 {
+    report(head::answer(source), answer)
 }
 
 /// Writes the values of an answer, and gives its class.

@@ -37,6 +37,13 @@ pub fn binder(source: &[u8], row: usize, sizes: Sizes, rubbish: Rubbish) -> Load
     lend(sizes, rubbish, |lent, answer| library::binder(source, row, lent, answer))
 }
 
+/// Asks for the module's name: the class, 0 for a name, and the answer. No table is lent.
+pub fn head(source: &[u8]) -> (u8, [u64; 3]) {
+    let mut answer = [u64::MAX; 3];
+    let class = library::head(source, &mut answer);
+    (class, answer)
+}
+
 /// Asks whether two sources leave the same core. The work area is the first set's; the answer stands with both.
 pub fn same(sources: [&[u8]; 2], sizes: [Sizes; 2], rubbish: Rubbish) -> [Loaded; 2] {
     let mut second = None;

@@ -16,8 +16,8 @@ use std::process::ExitCode;
 fn main() -> ExitCode {
     let words: Vec<OsString> = std::env::args_os().skip(1).collect();
     let told = usage::parsed(&words).and_then(|question| question.asked()).and_then(printed);
-    told.unwrap_or_else(|NotAsked(reason)| {
-        complain(&format!("sulyterom: {reason}"));
+    told.unwrap_or_else(|not_asked| {
+        complain(&not_asked.message());
         Status::NotAsked
     })
     .into()

@@ -6,6 +6,7 @@ use crate::source::Source;
 use crate::text_sentence;
 use std::ffi::OsStr;
 use std::fmt::Write;
+use std::os::unix::ffi::OsStrExt;
 use std::path::Path;
 use sulyterom::{
     Binding, Class, Comparison, LONGEST_SOURCE, Loaded, Loader, Reference, Refusal, Tables, Target, TokenKind,
@@ -228,6 +229,38 @@ pub fn same(one: &OsStr, other: &OsStr) -> Result<Answer, NotAsked> {
         Comparison::FirstRefused(refusal) => refused("first", &first, refusal),
         Comparison::SecondRefused(refusal) => refused("second", &second, refusal),
     })
+}
+
+/// The module's name in a file.
+fn module_name(file: &OsStr) -> Result<Answer, NotAsked> {
+    let source = Source::read_head(file)?;
+    Ok(match sulyterom::head(&source.bytes) {
+        Ok(name) => Answer::new(Status::Yes, format!("{name}\n")),
+        Err(refusal) if refusal.class == Class::LongSource => {
+            Answer::refused(refusal_line(refusal), sentence::no_head(&source))
+        }
+        Err(refusal) => refused(&source, refusal, Storage::Large),
+    })
+}
+
+/// A line for each file, with the file in front where there are several. One that cannot be read keeps no other from being
+/// told.
+pub fn head(files: &[&OsStr]) -> Result<Answer, NotAsked> {
+    if let [file] = files {
+        return module_name(file);
+    }
+    if files.iter().filter(|file| **file == "-").count() > 1 {
+        return Err(NotAsked(String::from("one of the files may be -, not more")));
+    }
+    let mut all = Answer::new(Status::Yes, "");
+    for file in files {
+        let front = [file.as_bytes(), b": "].concat();
+        match module_name(file) {
+            Ok(answer) => all.add(&front, answer),
+            Err(reason) => all.add(&front, Answer::not_asked(&reason)),
+        }
+    }
+    Ok(all)
 }
 
 pub fn core(file: &OsStr) -> Result<Answer, NotAsked> {

@@ -48,6 +48,12 @@ fn why(source: &Source, refusal: Refusal, storage: Storage) -> Told {
     }
 }
 
+/// Why a file over the longest source has no module name: its head is not good, or does not end in time.
+pub fn no_head(source: &Source) -> String {
+    let why = format!("the file has over {LONGEST_SOURCE} bytes, and no head in them that is good by itself");
+    placed(source, (None, format!("{why}; see its first two lines")))
+}
+
 /// A token as it is written, or the beginning of a long one.
 fn text(source: &[u8], token: Token) -> String {
     shown(&source[token.start..token.end])

@@ -6,7 +6,10 @@ use std::fmt;
 use std::fs::File;
 use std::io::{self, Read};
 use std::path::Path;
-use sulyterom::LONGEST_SOURCE;
+use sulyterom::{HEAD_BYTES, LONGEST_SOURCE};
+
+/// Bytes of a file that are read first where its head alone is wanted.
+const FIRST_BYTES: usize = 4_096;
 
 /// A source or a core text, and the name of its file.
 pub struct Source {
@@ -36,13 +39,22 @@ impl Source {
 
     /// The same, up to a byte over so many.
     pub fn read_over(file: &OsStr, longest: usize) -> Result<Self, NotAsked> {
+        Self::read_by(file, |input| beginning(input, longest))
+    }
+
+    /// As much of it as its module's name takes: the first bytes, if they give the name, and else as many as decide.
+    pub fn read_head(file: &OsStr) -> Result<Self, NotAsked> {
+        Self::read_by(file, |input| as_needed(input, |bytes| sulyterom::head(bytes).is_ok()))
+    }
+
+    fn read_by(file: &OsStr, read: impl FnOnce(&File) -> io::Result<Vec<u8>>) -> Result<Self, NotAsked> {
         let (name, opened) = if file == "-" {
-            (String::from("standard input"), standard::input().and_then(|input| beginning(&*input, longest)))
+            (String::from("standard input"), standard::input().and_then(|input| read(&input)))
         } else {
             let name = Path::new(file).display().to_string();
             let input =
                 File::open(file).map_err(|error| NotAsked(format!("cannot open {name}: {}", reason(&error))))?;
-            (name, beginning(&input, longest))
+            (name, read(&input))
         };
         match opened {
             Ok(bytes) => Ok(Self::new(name, bytes)),
@@ -67,6 +79,18 @@ impl fmt::Display for Position {
 fn beginning(input: impl Read, longest: usize) -> io::Result<Vec<u8>> {
     let mut bytes = Vec::new();
     input.take(longest as u64 + 1).read_to_end(&mut bytes)?;
+    Ok(bytes)
+}
+
+/// The first bytes, if these are enough, and else the first [`HEAD_BYTES`].
+fn as_needed(input: impl Read, enough: impl FnOnce(&[u8]) -> bool) -> io::Result<Vec<u8>> {
+    let mut bytes = Vec::new();
+    let mut input = input.take(FIRST_BYTES as u64);
+    input.read_to_end(&mut bytes)?;
+    if bytes.len() == FIRST_BYTES && !enough(&bytes) {
+        input.set_limit((HEAD_BYTES - FIRST_BYTES) as u64);
+        input.read_to_end(&mut bytes)?;
+    }
     Ok(bytes)
 }
 
@@ -108,6 +132,16 @@ mod tests {
     #[test]
     fn no_more_than_a_byte_over_the_longest() {
         assert_eq!(beginning(io::repeat(b' '), LONGEST_SOURCE).unwrap().len(), LONGEST_SOURCE + 1);
+    }
+
+    #[test]
+    fn no_more_than_is_needed() {
+        for (enough, read) in [(true, FIRST_BYTES), (false, HEAD_BYTES)] {
+            assert_eq!(as_needed(io::repeat(b' '), |_| enough).unwrap().len(), read);
+        }
+        let slow = Slow(vec![b' '; FIRST_BYTES + 1], false, false);
+        assert_eq!(as_needed(slow, |bytes| bytes.len() != FIRST_BYTES).unwrap().len(), FIRST_BYTES + 1);
+        assert_eq!(as_needed(&b"("[..], |_| unreachable!("all of it was read")).unwrap(), b"(");
     }
 
     #[test]

@@ -21,6 +21,7 @@ pub enum Question<'a> {
     Binder(&'a OsStr, usize),
     Same(&'a OsStr, &'a OsStr),
     Tokens(&'a OsStr),
+    Head(Vec<&'a OsStr>),
     Core(&'a OsStr),
     ReadCore(Layout, &'a OsStr),
 }
@@ -39,6 +40,7 @@ pub fn parsed(words: &[OsString]) -> Result<Question<'_>, NotAsked> {
         ("rows", [file]) => Ok(Question::Rows(file)),
         ("references", [file]) => Ok(Question::References(file)),
         ("tokens", [file]) => Ok(Question::Tokens(file)),
+        ("head", [_, ..]) => Ok(Question::Head(rest.to_vec())),
         ("core", [file]) => Ok(Question::Core(file)),
         ("readcore", [file, canonical] | [canonical, file]) if *canonical == "--canonical" => {
             Ok(Question::ReadCore(Layout::Canonical, file))
@@ -76,6 +78,7 @@ impl Question<'_> {
             Self::Binder(file, row) => questions::binder(file, row),
             Self::Same(one, other) => questions::same(one, other),
             Self::Tokens(file) => questions::tokens(file),
+            Self::Head(files) => questions::head(&files),
             Self::Core(file) => questions::core(file),
             Self::ReadCore(layout, file) => questions::read_core(layout, file),
         }
