@@ -73,7 +73,8 @@ fn main() -> ExitCode {
         _ => loading::mock::listing::command(&words),
         #[cfg(not(mock))]
         _ => {
-            let parts = ["compare", "dependence", "binder", "same", "head"].map(|part| format!("{part} [COUNT [SEED]]"));
+            let parts =
+                ["compare", "dependence", "binder", "same", "head"].map(|part| format!("{part} [COUNT [SEED]]"));
             eprintln!(
                 "usage: loading replay [FOLDER] | card | classes | {} | program EVERY PROGRAM",
                 parts.join(" | ")

@@ -1,6 +1,6 @@
 /* Lends rows and declarations as structs, by the inline functions of sulyterom.h, and compares with the calls that lend
    words: the answer and every word must be equal, for lists of many lengths, and what lies behind the list must stay.
-   Then binders, the listing, reading alone, tokens and core text.
+   Then binders, the listing, reading alone, tokens, module names and core text.
    The last line is 'N passed, M failed'. */
 #include "sulyterom.h"
 
@@ -284,6 +284,20 @@ static void tokens(void) {
     check(told.refused == 0 && told.kind == SULYTEROM_END && told.start == length && told.end == length, "a token", length, 0);
 }
 
+static void module_names(void) {
+    static const char source[] = "(surface 0 1) ; 1\n(module a_1 ) ]";
+    const uint8_t *s = (const uint8_t *)source;
+    const size_t length = sizeof source - 1;
+    sulyterom_module_name told = sulyterom_head_of(s, length);
+    check(told.refused == 0 && told.start == 26 && told.length == 3 && !told.has_offset && !told.offset, "a module's name", 0, 0);
+    told = sulyterom_head_of(s, 30);
+    check(told.refused == SULYTEROM_MALFORMED && told.has_offset && told.offset == 30 && !told.length, "a head cut off", 1, 0);
+    told = sulyterom_head_of((const uint8_t *)"(surface 0 2)", 13);
+    check(told.refused == SULYTEROM_VERSION && !told.has_offset && !told.offset && !told.start, "another version", 2, 0);
+    told = sulyterom_head_of(s, 0);
+    check(told.refused == SULYTEROM_MALFORMED && told.has_offset && told.offset == 0, "an empty source", 3, 0);
+}
+
 /* Where terms start, by the rows of both tables. */
 static void offsets(void) {
     static const char source[] = HEAD "(postulate x nat)(postulate y (pi x (ref x) (ref x)))";
@@ -333,6 +347,7 @@ static size_t module(size_t wanted) {
 int main(void) {
     classes();
     tokens();
+    module_names();
     offsets();
     binders();
     core_text();

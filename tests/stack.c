@@ -61,6 +61,11 @@ static void *same(void *unused) {
     return unused;
 }
 
+static void *head(void *unused) {
+    sulyterom_head_of((const uint8_t *)source, length);
+    return unused;
+}
+
 static void *print(void *unused) {
     text_length = sulyterom_print_into((const uint8_t *)source, length, &tables[0], text, sizeof text).length;
     return unused;
@@ -110,6 +115,7 @@ static void all(const char *what) {
     check("a dependence", depends);
     check("a binder", binder);
     check("a comparison", same);
+    check("the module's name", head);
     check("printing", print);
     check("reading a core text", read_core);
     check("reading a core text that is its own print", read_canonical);

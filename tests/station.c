@@ -288,6 +288,30 @@ static void binds(void) {
     refuses_to_bind("31 words of surface rows: 8", input, 9, lent, SULYTEROM_SURFACE_FULL, -1);
 }
 
+static uint8_t head(const char *source, size_t length) {
+    fill();
+    return sulyterom_head((const uint8_t *)source, length, answer, 3);
+}
+
+static void names_modules(void) {
+    static char longer[SULYTEROM_LONGEST_SOURCE + 2];
+    check("01's input is named", head(input, strlen(input)) == 0 && answers(2, 21, 1));
+    check("rubbish behind the head", head(HEAD "]\xff", 25) == 0 && answers(2, 21, 1));
+    check("a cut name is not taken", head(HEAD, 22) == SULYTEROM_MALFORMED && answers(1, 22, 0));
+    check("another version: 2", head("(surface 1 0) ]", 15) == SULYTEROM_VERSION && answers(0, 0, 0));
+    check("a reserved name: 3", head("(surface 0 1)(module nat)", 25) == SULYTEROM_RESERVED_NAME && answers(1, 21, 0));
+    check("not UTF-8 behind a bad head: 1", head("(surface 1 0)\xff", 14) == SULYTEROM_MALFORMED && answers(1, 13, 0));
+    memset(longer, ' ', sizeof longer);
+    check("a long source without a head: 6", head(longer, sizeof longer) == SULYTEROM_LONG_SOURCE && answers(0, 0, 0));
+    check("as long as may be: 1 at its end",
+          head(longer, SULYTEROM_LONGEST_SOURCE) == SULYTEROM_MALFORMED && answers(1, SULYTEROM_LONGEST_SOURCE, 0));
+    memcpy(longer, HEAD, 23);
+    check("a long source with a head", head(longer, sizeof longer) == 0 && answers(2, 21, 1));
+    fill();
+    answer[0] = 7;
+    check("no room for the answer", sulyterom_head((const uint8_t *)HEAD, 23, answer, 2) == 0 && answer[0] == 7);
+}
+
 static void prints_and_reads(void) {
     size_t length = strlen(core_text);
     check("01's input printed", print(input, whole, sizeof buffer) == 0 && answers(1, length, 0));
@@ -386,6 +410,7 @@ int main(void) {
     check("its refusal leaves 0 for both",
           hold(whole, nothing, nothing, nothing) && second_hold(nothing, nothing, nothing));
 
+    names_modules();
     prints_and_reads();
 
     memset(answer, 0xa5, sizeof answer);

@@ -81,8 +81,10 @@ fn is_accepted(beginning: &[u8]) -> bool {
 /// The eighth token of an accepted source, which the Rust has as the module's name.
 fn name(accepted: &[u8]) -> Name {
     let text = std::str::from_utf8(accepted).expect("an accepted source is UTF-8");
-    let token = (0..8).fold(None, |before: Option<usize>, _| Some(answers::token_at(text, before.unwrap_or(0)).end));
-    let end = token.expect("a head has nine tokens");
+    let mut end = 0;
+    for _ in 0..8 {
+        end = answers::token_at(text, end).end;
+    }
     let module = answers::read(accepted).expect("it is accepted");
     let length = module.name().as_str().len();
     assert!(text[..end].ends_with(module.name().as_str()), "the name that the Rust has read");

@@ -38,8 +38,8 @@ pub fn readings() -> Vec<Reading> {
         ([reserved(), vec![b' '; LONGEST - 25]].concat(), Err(Refusal::at(3, 21))),
         ([reserved(), vec![b' '; LONGEST - 24]].concat(), six),
         ([reserved(), b";\xc3".to_vec()].concat(), one(26)),
-        ([&MARK[..], &head(b"")].concat(), one(0)),
-        ([&MARK[..], &head(b"\xff")].concat(), one(26)),
+        ([MARK, &head(b"")].concat(), one(0)),
+        ([MARK, &head(b"\xff")].concat(), one(26)),
         ([b"]".to_vec(), vec![b' '; LONGEST - 1]].concat(), one(0)),
         ([b"]".to_vec(), vec![b' '; LONGEST]].concat(), six),
         (ending(LONGEST), Ok([LONGEST - 2, 1])),
@@ -112,7 +112,8 @@ fn tokens(prng: &mut Prng) -> Vec<String> {
 
 /// The tokens with gaps between them; one gap may be as long as it takes to end at an offset.
 fn joined(tokens: &[String], end: Option<usize>, prng: &mut Prng) -> Vec<u8> {
-    let gaps: Vec<Vec<u8>> = (0..tokens.len()).map(|at| gap(at > 0 && touch(&tokens[at - 1], &tokens[at]), prng)).collect();
+    let gaps: Vec<Vec<u8>> =
+        (0..tokens.len()).map(|at| gap(at > 0 && touch(&tokens[at - 1], &tokens[at]), prng)).collect();
     let length: usize = gaps.iter().map(Vec::len).sum::<usize>() + tokens.iter().map(String::len).sum::<usize>();
     let filled = prng.below(tokens.len());
     let comment = prng.chance(50);
@@ -141,7 +142,10 @@ fn gap(must: bool, prng: &mut Prng) -> Vec<u8> {
         0..=35 if must => b" ".to_vec(),
         0..=35 => Vec::new(),
         36..=47 => layout.to_vec(),
-        48..=56 => [b";", *prng.pick::<&[u8]>(&[b"", b")", b"(", b"a comment of more than a block", b"\xc3\xa9"]), b"\n"].concat(),
+        48..=56 => {
+            [b";", *prng.pick::<&[u8]>(&[b"", b")", b"(", b"a comment of more than a block", b"\xc3\xa9"]), b"\n"]
+                .concat()
+        }
         57 => [b";", *prng.pick(&FAULTS), b"\n"].concat(),
         _ => [layout, b";\xe2\x88\x80\r\n", layout].concat(),
     }

@@ -1,19 +1,19 @@
 -- The refusal where there is no good head: that of the whole source, which is 1, 2, 3 or 6.
 use mathlib.Core.Path.{_≡_, refl, sym, ap, _∙_, subst}
 use mathlib.Core.Logic.{_⊎_, inl, inr}
-use mathlib.Core.List.{List, [], _∷_}
+use mathlib.Core.List.{List}
 use mathlib.Core.Option.{Option, none, some}
 use mathlib.Core.Bool.{Bool, true, false, not}
-use Prim.Native.Nat.{ℕ, _+_, _≤_, _<_}
+use Prim.Native.Nat.{ℕ, _≤_, _<_}
 use native.Mathlib.Omega.{arith}
 use lib.Dec.{leb, eqb}
-use lib.ListN.{length, take, drop}
+use lib.ListN.{length, take}
 use borrow.Author.Tests.{leb-true, le-leb, lt-leb, eqb-true, eq-eqb, not-true}
-use Rattle.token.specs.Token.{byte-class, layout-end, atom-from, token-here, next-token}
+use Rattle.token.specs.Token.{next-token}
 use Rattle.token.specs.declared.Token.{Token}
 use Rattle.token.specs.declared.Refusal.{Refusal}
 use Rattle.token.specs.declared.Lexed.{Lexed}
-use Rattle.token.proofs.Outcomes.{atom-by, here-by}
+use Rattle.token.proofs.Outcomes.{every-token}
 use Rattle.words.specs.Words.{ascii, same-bytes, identifier, numeral}
 use Rattle.utf8.specs.Utf8.{valid-length, byte-order-mark}
 use Rattle.terms.specs.Forms.{Edition}
@@ -139,19 +139,8 @@ abbrev Lexes : Lexed → Type 0
 Lexes (Lexed.Got t) = Unit {0}
 Lexes (Lexed.Refused r) = head-refusal (r .class) ≡ true
 
-atom-lexes : (l : List ℕ) (start at : ℕ) → Lexes (atom-from start at l)
-unfolding atom-from
-atom-lexes [] start at = tt
-atom-lexes (b ∷ l) start at = atom-by Lexes (byte-class b) start at _ tt refl (atom-lexes l start (at + 1))
-
-here-lexes : (l : List ℕ) (at : ℕ) → Lexes (token-here at l)
-unfolding token-here
-here-lexes [] at = tt
-here-lexes (b ∷ l) at = here-by Lexes (byte-class b) at _ refl (λ e. tt) (λ e. tt) (atom-lexes l at (at + 1))
-
 next-lexes : (s : List ℕ) (at : ℕ) → Lexes (next-token s at)
-unfolding next-token
-next-lexes s at = let p = layout-end false at (drop at s) in here-lexes (drop p s) p
+next-lexes = every-token Lexes (λ a e. tt) (λ a e. tt) (λ a e. tt) (λ a e. tt) (λ p. refl)
 
 module _ (next : ℕ → Lexed) (lexes : (at : ℕ) → Lexes (next at)) where
   lexed-only : (n : ℕ) (x : Lexed) → Lexes x → Only (lexed n x)

@@ -13,14 +13,16 @@ use Rattle.token.specs.Token.{next-token}
 use Rattle.token.specs.declared.Token.{Token}
 use Rattle.token.specs.declared.Refusal.{Refusal}
 use Rattle.token.specs.declared.Lexed.the-variants.{Got}
+use Rattle.surface.specs.declared.Answer.{Answer}
 use Rattle.surface.specs.Grammar.{Derives}
 use Rattle.surface.specs.Reader.{Position, start, done, nowhere}
 use Rattle.surface.specs.Reading.{Head, head}
 use Rattle.surface.proofs.CompleteModule.{head-reads, head-goes}
 use Rattle.surface.proofs.Accepted.{accepts-exactly}
+use Rattle.surface.proofs.Reports.{report-tells}
 use Rattle.module_name.specs.declared.ModuleName.the-variants.{Named, Refused}
 use Rattle.module_name.specs.ModuleName.{module-name}
-use Rattle.module_name.specs.Statements.{NameOfShortest, RefusalOfWhole, EndsThere, NothingBehind, OnlyThese, NameAsLoaded, NameOfBeginning, FirstBytes, AmpleIsEnough, head-refusal}
+use Rattle.module_name.specs.Statements.{NameOfShortest, RefusalOfWhole, EndsThere, NothingBehind, OnlyThese, NameAsLoaded, NameOfBeginning, FirstBytes, NameTells, AmpleIsEnough, head-refusal}
 use Rattle.module_name.proofs.Good.{Good, good-closed, good-elsewhere, good-longer, good-derives, clean-good}
 use Rattle.module_name.proofs.Search.{good-names, none-refused}
 use Rattle.module_name.proofs.Refusals.{long-heading, heading-for, none-heading, none-names, none-by, none-good, GoodOrNone, good-or-none}
@@ -32,6 +34,20 @@ name-of-shortest = meaning.name-of-shortest
 
 pub refusal-of-whole : RefusalOfWhole
 refusal-of-whole = meaning.refusal-of-whole
+
+-- Two numbers of a name are told as loading's two counts are.
+pub name-tells : NameTells
+name-tells (Named a n) (Named b m) e =
+    let f = report-tells (Answer.Loaded a n) (Answer.Loaded b m) e in
+    let i : a ≡ b = cc in
+    let j : n ≡ m = cc in
+    λ k. Named (i k) (j k)
+name-tells (Named a n) (Refused r) e = absurd (let f = report-tells (Answer.Loaded a n) (Answer.Refused r) e in let z : _≡_ {A = ℕ} 0 1 = cc in omega arith)
+name-tells (Refused r) (Named a n) e = absurd (let f = report-tells (Answer.Refused r) (Answer.Loaded a n) e in let z : _≡_ {A = ℕ} 0 1 = cc in omega arith)
+name-tells (Refused r) (Refused q) e =
+    let f = report-tells (Answer.Refused r) (Answer.Refused q) e in
+    let i : r ≡ q = cc in
+    ap Refused i
 
 pub ample-is-enough : AmpleIsEnough
 ample-is-enough = ample.ample-is-enough

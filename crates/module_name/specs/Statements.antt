@@ -18,8 +18,9 @@ use Rattle.surface.specs.Reading.{Head, head}
 use Rattle.surface.specs.Tables.{Lengths}
 use Rattle.surface.specs.SameCore.{Accepts}
 use Rattle.surface.specs.Loading.{load}
+use Rattle.module_name.specs.declared.ModuleName.{ModuleName}
 use Rattle.module_name.specs.declared.ModuleName.the-variants.{Named, Refused}
-use Rattle.module_name.specs.ModuleName.{ample, module-name}
+use Rattle.module_name.specs.ModuleName.{ample, module-name, report-module-name}
 
 -- "would be accepted by itself, given enough storage": there are table lengths with which loading accepts it.
 abbrev pub WouldBeAccepted : List ℕ → Type 0
@@ -42,7 +43,8 @@ pub record NameIn (s : List ℕ) (start length : ℕ) : Type 0 where
 abbrev pub NameOfShortest : Type 0
 NameOfShortest = (s : List ℕ) (a l : ℕ) → (module-name s ≡ Named a l) ↔ ((n : ℕ) × Shortest s n × NameIn (take n s) a l)
 
--- "If no such beginning exists, the answer is the refusal of the whole source", with whatever tables: but for a work area, which `head` needs not.
+-- "If no such beginning exists, the answer is the refusal of the whole source", with whatever tables and a work area: 11 is about a table that
+-- `head` is not lent.
 abbrev pub NoBeginning : List ℕ → Type 0
 NoBeginning s = (m : ℕ) → WouldBeAccepted (take m s) → ⊥
 
@@ -90,6 +92,10 @@ NameOfBeginning = (s : List ℕ) (n a l : ℕ) → module-name (take n s) ≡ Na
 -- 65,536 bytes are enough to ask with, for a refusal too.
 abbrev pub FirstBytes : Type 0
 FirstBytes = (s : List ℕ) (n : ℕ) → 65536 ≤ n → module-name (take n s) ≡ module-name s
+
+-- No two answers have the same number and values, so that these say all of the answer.
+abbrev pub NameTells : Type 0
+NameTells = (a b : ModuleName) → report-module-name a ≡ report-module-name b → a ≡ b
 
 -- What loading accepts with some tables it accepts with those of `ample`.
 abbrev pub AmpleIsEnough : Type 0

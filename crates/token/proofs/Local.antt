@@ -7,13 +7,13 @@ use native.Mathlib.Omega.{arith}
 use lib.Dec.{eqb, ltb}
 use lib.ListN.{length, take, drop}
 use borrow.Author.Tests.{ltb-true, ltb-false}
-use Rattle.token.specs.Token.{byte-class, layout-end, atom-from, token-here, next-token, token, malformed}
+use Rattle.token.specs.Token.{byte-class, layout-end, atom-from, token-here, next-token}
 use Rattle.token.specs.declared.ByteClass.{ByteClass}
 use Rattle.token.specs.declared.ByteClass.the-variants.{Layout, Comment, LParen, RParen, Atom, Refused}
 use Rattle.token.specs.declared.TokenKind.{TokenKind}
 use Rattle.token.specs.declared.Token.{Token}
 use Rattle.token.specs.declared.Lexed.{Lexed}
-use Rattle.token.proofs.Outcomes.{atom-by, here-by}
+use Rattle.token.proofs.Outcomes.{atom-both, atom-by, here-both, here-by}
 use Rattle.token.proofs.Bounds.{layout-span}
 
 -- Both lists have k bytes at least, and the first k are the same.
@@ -112,29 +112,6 @@ unfolding token-here
 here-past n at [] h = λ i. i
 here-past n at (b ∷ l) h = here-by (Past n) (byte-class b) at _ tt (λ e i. omega arith) (λ e i. omega arith) (atom-past n at (at + 1) l (omega arith))
 
-atom-class : (start at n : ℕ) (k : ByteClass) (x y : Lexed) → Before n x y
-    → Before n (elim k as (λ _. Lexed) [
-      | Layout ↦ token TokenKind.Atom start at
-      | Comment ↦ token TokenKind.Atom start at
-      | LParen ↦ token TokenKind.Atom start at
-      | RParen ↦ token TokenKind.Atom start at
-      | Atom ↦ x
-      | Refused ↦ malformed at
-    ]) (elim k as (λ _. Lexed) [
-      | Layout ↦ token TokenKind.Atom start at
-      | Comment ↦ token TokenKind.Atom start at
-      | LParen ↦ token TokenKind.Atom start at
-      | RParen ↦ token TokenKind.Atom start at
-      | Atom ↦ y
-      | Refused ↦ malformed at
-    ])
-atom-class start at n Layout x y h = λ i. refl
-atom-class start at n Comment x y h = λ i. refl
-atom-class start at n LParen x y h = λ i. refl
-atom-class start at n RParen x y h = λ i. refl
-atom-class start at n Atom x y h = h
-atom-class start at n Refused x y h = tt
-
 before-same : (n m : ℕ) (x y : Lexed) → n ≡ m → Before n x y → Before m x y
 before-same n m x y e h = subst (λ (k : ℕ). Before k x y) e h
 
@@ -145,31 +122,8 @@ atom-local (suc k) start at [] m a = absurd a
 atom-local (suc k) start at (b ∷ l) [] a = absurd a
 atom-local (suc k) start at (b ∷ l) (d ∷ m) a =
     subst (λ (x : ℕ). Before (at + suc k) (atom-from start at (b ∷ l)) (atom-from start at (x ∷ m))) (a .0)
-    (atom-class start at (at + suc k) (byte-class b) (atom-from start (at + 1) l) (atom-from start (at + 1) m)
+    (atom-both (Before (at + suc k)) (byte-class b) start at (atom-from start (at + 1) l) (atom-from start (at + 1) m) (λ i. refl) tt
     (before-same (at + 1 + k) (at + suc k) (atom-from start (at + 1) l) (atom-from start (at + 1) m) (omega arith) (atom-local k start (at + 1) l m (a .1))))
-
-here-class : (at n : ℕ) (k : ByteClass) (x y : Lexed) → Before n x y
-    → Before n (elim k as (λ _. Lexed) [
-      | Layout ↦ malformed at
-      | Comment ↦ malformed at
-      | LParen ↦ token TokenKind.LParen at (at + 1)
-      | RParen ↦ token TokenKind.RParen at (at + 1)
-      | Atom ↦ x
-      | Refused ↦ malformed at
-    ]) (elim k as (λ _. Lexed) [
-      | Layout ↦ malformed at
-      | Comment ↦ malformed at
-      | LParen ↦ token TokenKind.LParen at (at + 1)
-      | RParen ↦ token TokenKind.RParen at (at + 1)
-      | Atom ↦ y
-      | Refused ↦ malformed at
-    ])
-here-class at n Layout x y h = tt
-here-class at n Comment x y h = tt
-here-class at n LParen x y h = λ i. refl
-here-class at n RParen x y h = λ i. refl
-here-class at n Atom x y h = h
-here-class at n Refused x y h = tt
 
 here-local : (k at : ℕ) (l m : List ℕ) → Agree k l m → Before (at + k) (token-here at l) (token-here at m)
 unfolding token-here
@@ -178,7 +132,7 @@ here-local (suc k) at [] m a = absurd a
 here-local (suc k) at (b ∷ l) [] a = absurd a
 here-local (suc k) at (b ∷ l) (d ∷ m) a =
     subst (λ (x : ℕ). Before (at + suc k) (token-here at (b ∷ l)) (token-here at (x ∷ m))) (a .0)
-    (here-class at (at + suc k) (byte-class b) (atom-from at (at + 1) l) (atom-from at (at + 1) m)
+    (here-both (Before (at + suc k)) (byte-class b) at (atom-from at (at + 1) l) (atom-from at (at + 1) m) tt (λ e i. refl) (λ e i. refl)
     (before-same (at + 1 + k) (at + suc k) (atom-from at (at + 1) l) (atom-from at (at + 1) m) (omega arith) (atom-local k at (at + 1) l m (a .1))))
 
 -- A token of a source is a token of any other with the same first n bytes, if it ends before these do, or is a parenthesis that ends with them.
