@@ -1,15 +1,13 @@
 -- Reading a core text, test by test.
 use mathlib.Core.Path.{_≡_, refl, ap}
-use mathlib.Core.Bool.{Bool, true, false, not}
+use mathlib.Core.Bool.{true, false, not}
 use mathlib.Core.List.{List, []}
 use Prim.Native.Nat.{ℕ, _/_, _≤_, _<_}
-use native.Mathlib.Omega.{arith}
 use lib.ListN.{length}
 use borrow.Author.Tests.{le-leb, lt-leb, eq-eqb, ne-eqb}
-use Rattle.token.specs.declared.Refusal.{Refusal}
 use Rattle.utf8.specs.Utf8.{valid-length, byte-order-mark}
 use Rattle.terms.specs.Label.{Declaration}
-use Rattle.surface.specs.Reader.{Position, start, Result, refused, Reader, after, _>>_, pure, require, nowhere, at-offset}
+use Rattle.surface.specs.Reader.{start, refused, Reader, after, _>>_, pure, require, nowhere, at-offset}
 use Rattle.surface.specs.Tables.{Lengths}
 use Rattle.surface.specs.Loading.{frame-limit}
 use Rattle.surface.proofs.Takes.{require-go, require-stops}

@@ -1,18 +1,16 @@
 -- Parsing and loading, test by test.
 use mathlib.Core.Path.{_≡_, refl, sym, ap, subst}
-use mathlib.Core.Bool.{Bool, true, false, not}
+use mathlib.Core.Bool.{true, false, not}
 use mathlib.Core.List.{List, []}
-use mathlib.Core.Option.{Option, none, some}
+use mathlib.Core.Option.{Option}
 use Prim.Native.Nat.{ℕ, _/_, _≤_, _<_}
-use native.Mathlib.Omega.{arith}
-use lib.Dec.{leb, eqb}
 use lib.ListN.{length}
 use borrow.Author.Tests.{le-leb, lt-leb, eq-eqb, ne-eqb}
 use Rattle.token.specs.declared.Refusal.{Refusal}
 use Rattle.utf8.specs.Utf8.{valid-length, byte-order-mark}
 use Rattle.terms.specs.Label.{Declaration}
 use Rattle.terms.specs.Resolution.{RefusedName, first-refused}
-use Rattle.surface.specs.Reader.{Position, start, Result, done, refused, Reader, after, require, nowhere, at-offset}
+use Rattle.surface.specs.Reader.{Position, start, Result, done, refused, after, nowhere, at-offset}
 use Rattle.surface.specs.Reading.{read-module}
 use Rattle.surface.specs.Loading.{Lengths, frame-limit, parsing, reading, accept, loading}
 use Rattle.surface.proofs.Takes.{require-go, require-stops}

@@ -22,7 +22,7 @@ use Rattle.surface.specs.Reading.{Head as HeadRead, head}
 use Rattle.surface.specs.Tables.{Lengths}
 use Rattle.surface.specs.SameCore.{Accepts}
 use Rattle.surface.specs.Loading.{loading, outcome, load}
-use Rattle.surface.specs.Statements.{Readable, Enough}
+use Rattle.surface.specs.Statements.{Readable}
 use Rattle.surface.proofs.Steps.{done-inj}
 use Rattle.surface.proofs.Runs.{Run, run-tokens}
 use Rattle.surface.proofs.SoundModule.{head-done, head-before}

@@ -1,23 +1,23 @@
 -- The tokens of a head depend on the bytes up to its end only.
 use mathlib.Core.Path.{_≡_, refl, sym, ap, _∙_, subst}
 use mathlib.Core.List.{List, [], _∷_}
-use Prim.Native.Nat.{ℕ, _-_, _+_, _≤_, _<_}
+use Prim.Native.Nat.{ℕ, _-_, _≤_, _<_}
 use native.Mathlib.Omega.{arith}
 use lib.ListN.{length, getD}
 use Rattle.token.specs.Token.{next-token}
 use Rattle.token.specs.declared.TokenKind.{TokenKind}
 use Rattle.token.specs.declared.Token.{Token}
 use Rattle.token.specs.declared.Lexed.the-variants.{Got}
-use Rattle.token.proofs.Bounds.{Within, SpanOf, Span, bounds}
+use Rattle.token.proofs.Bounds.{Within, Span, bounds}
 use Rattle.token.proofs.Local.{Agree, Reach, part-same, token-local}
 use Rattle.token.proofs.Parentheses.{close-here}
 use Rattle.token.proofs.Runs.{drop-next}
-use Rattle.words.specs.Words.{identifier, numeral}
+use Rattle.words.specs.Words.{identifier}
 use Rattle.terms.specs.Forms.{Edition}
 use Rattle.surface.specs.Text.{text}
-use Rattle.surface.specs.Grammar.{Opens, Closes, Word, Numeral, Name, Version, version-0-1, Head, head}
+use Rattle.surface.specs.Grammar.{Closes, Word, Name, Version, version-0-1, Head, head}
 use Rattle.surface.proofs.TokenSizes.{span-of}
-use Rattle.surface.proofs.Runs.{Run, run-end, run-more, first-of, others-of, end-of}
+use Rattle.surface.proofs.Runs.{Run, run-end, run-more, end-of}
 
 -- The tokens have bytes, which end at e at the latest.
 abbrev pub Inside : ℕ → List Token → Type 0

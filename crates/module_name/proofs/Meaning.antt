@@ -1,27 +1,22 @@
 -- The shortest beginning that is accepted is a good head, and the other way round.
-use mathlib.Core.Path.{_≡_, refl, sym, ap, _∙_, subst}
-use mathlib.Core.Logic.{_⊎_, inl, inr}
+use mathlib.Core.Path.{_≡_, sym, ap, _∙_, subst}
+use mathlib.Core.Logic.{inl, inr}
 use mathlib.Core.List.{List, []}
-use Prim.Native.Nat.{ℕ, _-_, _≤_, min}
+use Prim.Native.Nat.{ℕ, _-_}
 use native.Mathlib.Omega.{arith}
-use lib.ListN.{length, take, length-take}
-use lib.Seq.{length-take-le}
+use lib.ListN.{take}
 use Rattle.token.specs.declared.Token.{Token}
-use Rattle.token.specs.declared.Refusal.{Refusal}
 use Rattle.surface.specs.declared.Answer.{Answer}
-use Rattle.surface.specs.Grammar.{Derives}
 use Rattle.surface.specs.Reader.{start}
 use Rattle.surface.specs.Reading.{Head}
-use Rattle.surface.specs.Loading.{load}
 use Rattle.surface.proofs.Steps.{done-inj}
 use Rattle.surface.proofs.CompleteModule.{head-reads, head-goes}
-use Rattle.surface.proofs.Accepted.{accepts-exactly}
 use Rattle.module_name.specs.declared.ModuleName.the-variants.{Named, Refused}
 use Rattle.module_name.specs.ModuleName.{ample, module-name}
-use Rattle.module_name.specs.Statements.{NoBeginning, WholeRefused, Shortest, NameIn, NameOfShortest, RefusalOfWhole, EndsThere, NothingBehind, OnlyThese, NameAsLoaded}
-use Rattle.module_name.proofs.Good.{Good, good-head, good-closed, good-unique, good-elsewhere, good-itself, good-derives, good-would, clean-good, accepted-good}
-use Rattle.module_name.proofs.Search.{named, good-names, none-refused}
-use Rattle.module_name.proofs.Refusals.{heading-answers, heading-for, none-heading, none-names, GoodOrNone, good-or-none}
+use Rattle.module_name.specs.Statements.{NoBeginning, WholeRefused, Shortest, NameIn, NameOfShortest, RefusalOfWhole}
+use Rattle.module_name.proofs.Good.{Good, good-head, good-closed, good-unique, good-itself, good-derives, good-would, accepted-good}
+use Rattle.module_name.proofs.Search.{good-names, none-refused}
+use Rattle.module_name.proofs.Refusals.{heading-answers, none-heading, none-names, GoodOrNone, good-or-none}
 
 pub good-shortest : (s : List ℕ) (h : Head) (n : ℕ) → Good s h n → Shortest s n
 good-shortest s h n g = record {

@@ -10,7 +10,6 @@ use lib.Dec.{leb, eqb}
 use lib.ListN.{length, take}
 use borrow.Author.Tests.{leb-true, le-leb, lt-leb, eqb-true, eq-eqb, not-true}
 use Rattle.token.specs.Token.{next-token}
-use Rattle.token.specs.declared.Token.{Token}
 use Rattle.token.specs.declared.Refusal.{Refusal}
 use Rattle.token.specs.declared.Lexed.{Lexed}
 use Rattle.token.proofs.Outcomes.{every-token}
@@ -22,14 +21,13 @@ use Rattle.surface.specs.declared.Answer.{Answer}
 use Rattle.surface.specs.Text.{text, is-open, is-close, is-atom}
 use Rattle.surface.specs.Reader.{Position, start, Result, done, refused, Reader, after, _>>_, require, nowhere, at-offset}
 use Rattle.surface.specs.Reading.{lexed, token, opening, closing, atom, word, natural, name, edition-of, supported, surface-line, module-line, Head, head, read-module}
-use Rattle.surface.specs.SameCore.{Accepts}
 use Rattle.surface.specs.Loading.{Lengths, parsing, reading, loading, outcome, load}
 use Rattle.surface.proofs.Steps.{no-done, done-inj, after-elim, require-elim, natural-done}
 use Rattle.surface.proofs.Takes.{require-go, require-stops}
 use Rattle.surface.proofs.Shaped.{version-tokens}
 use Rattle.surface.proofs.SoundModule.{edition-is, supported-done}
 use Rattle.surface.proofs.Acceptance.{whole-valid}
-use Rattle.module_name.specs.declared.ModuleName.the-variants.{Named, Refused}
+use Rattle.module_name.specs.declared.ModuleName.the-variants.{Refused}
 use Rattle.module_name.specs.ModuleName.{ample, module-name}
 use Rattle.module_name.specs.Statements.{NoBeginning, head-refusal}
 use Rattle.module_name.proofs.Good.{Good, good-head, good-would, read-good, clean-good, accepted-good}

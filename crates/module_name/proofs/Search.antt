@@ -1,6 +1,6 @@
 -- What the search for the shortest beginning finds: a good head, or the refusal of the whole source.
 use mathlib.Core.Path.{_≡_, refl, sym, ap, _∙_, subst}
-use mathlib.Core.List.{List, []}
+use mathlib.Core.List.{List}
 use Prim.Native.Nat.{ℕ, zero, suc, _+_, _-_, _≤_, _<_}
 use native.Mathlib.Omega.{arith}
 use lib.Dec.{eqb}
@@ -8,10 +8,9 @@ use lib.ListN.{length, take}
 use lib.Seq.{take-length}
 use mathlib.Core.Bool.{Bool, true, false}
 use borrow.Author.Tests.{eqb-true, eqb-false}
-use Rattle.token.specs.declared.Token.{Token}
 use Rattle.token.specs.declared.Refusal.{Refusal}
 use Rattle.terms.specs.Label.{Declaration}
-use Rattle.surface.specs.Reader.{Position, start, Result, done, refused, after}
+use Rattle.surface.specs.Reader.{start, Result, done, refused, after}
 use Rattle.surface.specs.Reading.{Head, head}
 use Rattle.surface.specs.SameCore.{Accepts}
 use Rattle.surface.specs.Loading.{loading, outcome, load}

@@ -2,8 +2,8 @@
 use mathlib.Core.Path.{_≡_, refl, sym, ap, _∙_, subst}
 use mathlib.Core.Logic.{inl, inr}
 use mathlib.Core.Bool.{Bool, true, false}
-use mathlib.Core.List.{List, []}
-use Prim.Native.Nat.{ℕ, _-_, _≤_, _<_, min}
+use mathlib.Core.List.{[]}
+use Prim.Native.Nat.{ℕ, _<_, min}
 use native.Mathlib.Omega.{arith}
 use lib.Dec.{leb}
 use lib.ListN.{length, take, length-take}
@@ -12,9 +12,7 @@ use borrow.Author.Tests.{leb-true, leb-false}
 use Rattle.token.specs.Token.{next-token}
 use Rattle.token.specs.declared.Token.{Token}
 use Rattle.token.specs.declared.Refusal.{Refusal}
-use Rattle.token.specs.declared.Lexed.the-variants.{Got}
 use Rattle.surface.specs.declared.Answer.{Answer}
-use Rattle.surface.specs.Grammar.{Derives}
 use Rattle.surface.specs.Reader.{Position, start, done, nowhere}
 use Rattle.surface.specs.Reading.{Head, head}
 use Rattle.surface.proofs.CompleteModule.{head-reads, head-goes}
@@ -23,7 +21,7 @@ use Rattle.surface.proofs.Reports.{report-tells}
 use Rattle.module_name.specs.declared.ModuleName.the-variants.{Named, Refused}
 use Rattle.module_name.specs.ModuleName.{module-name}
 use Rattle.module_name.specs.Statements.{NameOfShortest, RefusalOfWhole, EndsThere, NothingBehind, OnlyThese, NameAsLoaded, NameOfBeginning, FirstBytes, NameTells, AmpleIsEnough, head-refusal}
-use Rattle.module_name.proofs.Good.{Good, good-closed, good-elsewhere, good-longer, good-derives, clean-good}
+use Rattle.module_name.proofs.Good.{good-closed, good-elsewhere, good-longer, good-derives, clean-good}
 use Rattle.module_name.proofs.Search.{good-names, none-refused}
 use Rattle.module_name.proofs.Refusals.{long-heading, heading-for, none-heading, none-names, none-by, none-good, GoodOrNone, good-or-none}
 use Rattle.module_name.proofs.Meaning as meaning

@@ -3,7 +3,7 @@ use mathlib.Core.Path.{_≡_, refl, sym, ap, _∙_, subst}
 use mathlib.Core.Logic.{_↔_}
 use mathlib.Core.List.{List, []}
 use mathlib.Core.Option.{Option, none, some}
-use mathlib.Core.Bool.{false, not}
+use mathlib.Core.Bool.{not}
 use Prim.Native.Nat.{ℕ, _/_, _≤_}
 use native.Mathlib.Omega.{arith}
 use lib.Dec.{leb, eqb}
@@ -15,9 +15,7 @@ use Rattle.utf8.proofs.Longest.{valid-is-whole, valid-is-longest}
 use Rattle.terms.specs.Label.{Declaration}
 use Rattle.terms.specs.Resolution.{RefusedName, first-refused}
 use Rattle.terms.proofs.Widths.{total, total-surface}
-use Rattle.surface.specs.Grammar.{Derives}
 use Rattle.surface.specs.Reader.{Position, start, done, after}
-use Rattle.surface.specs.Reading.{read-module}
 use Rattle.surface.specs.Loading.{Lengths, frame-limit, parsing, reading, accept, loading}
 pub use Rattle.surface.specs.Statements.{Readable, Enough, ReadsExactly, LoadsExactly}
 use Rattle.surface.proofs.Steps.{no-done, after-elim, require-elim, done-as}

@@ -1,5 +1,5 @@
 -- DEMAND 1, from the promise of `load`: which sources a call accepts, and what it leaves where it refuses.
-use mathlib.Core.Path.{_≡_, refl, sym, ap, _∙_, subst}
+use mathlib.Core.Path.{_≡_, refl, sym, _∙_, subst}
 use mathlib.Core.Logic.{_↔_}
 use mathlib.Core.List.{List}
 use Prim.Native.Nat.{ℕ}
@@ -8,7 +8,7 @@ use lib.ListN.{length}
 use Rattle.token.specs.declared.Refusal.{Refusal}
 use Rattle.terms.specs.Label.{Declaration}
 use Rattle.surface.specs.declared.Answer.{Answer}
-use Rattle.surface.specs.Reader.{Position, start, Result, done, refused}
+use Rattle.surface.specs.Reader.{start, Result, done, refused}
 use Rattle.surface.specs.Tables.{Lengths, lengths, blank}
 use Rattle.surface.specs.Loading.{Outcome, outcome, loading, load}
 use Rattle.surface.specs.SameCore.{Accepts}
