@@ -10,24 +10,33 @@ use Rattle.token.specs.declared.ByteClass.the-variants.{Layout, Comment,
 use Rattle.token.specs.declared.TokenKind.{TokenKind}
 use Rattle.token.specs.declared.Lexed.{Lexed}
 
--- Inside an atom, where it goes on as o or, in another source, as u.
-pub atom-both : (R : Lexed → Lexed → Type 0) (k : ByteClass) (start at : ℕ) (o u : Lexed)
-    → R (token TokenKind.Atom start at) (token TokenKind.Atom start at) → R (malformed at) (malformed at) → R o u
-    → R (elim k as (λ _. Lexed) [
+-- What a byte of some class makes inside an atom that goes on as o, and where a token starts that is o if it is an atom.
+abbrev in-atom : ByteClass → ℕ → ℕ → Lexed → Lexed
+in-atom k start at o =
+    elim k as (λ _. Lexed) [
       | Layout ↦ token TokenKind.Atom start at
       | Comment ↦ token TokenKind.Atom start at
       | LParen ↦ token TokenKind.Atom start at
       | RParen ↦ token TokenKind.Atom start at
       | Atom ↦ o
       | Refused ↦ malformed at
-    ]) (elim k as (λ _. Lexed) [
-      | Layout ↦ token TokenKind.Atom start at
-      | Comment ↦ token TokenKind.Atom start at
-      | LParen ↦ token TokenKind.Atom start at
-      | RParen ↦ token TokenKind.Atom start at
-      | Atom ↦ u
+    ]
+
+abbrev at-token : ByteClass → ℕ → Lexed → Lexed
+at-token k at o =
+    elim k as (λ _. Lexed) [
+      | Layout ↦ malformed at
+      | Comment ↦ malformed at
+      | LParen ↦ token TokenKind.LParen at (at + 1)
+      | RParen ↦ token TokenKind.RParen at (at + 1)
+      | Atom ↦ o
       | Refused ↦ malformed at
-    ])
+    ]
+
+-- Inside an atom, where it goes on as o or, in another source, as u.
+pub atom-both : (R : Lexed → Lexed → Type 0) (k : ByteClass) (start at : ℕ) (o u : Lexed)
+    → R (token TokenKind.Atom start at) (token TokenKind.Atom start at) → R (malformed at) (malformed at) → R o u
+    → R (in-atom k start at o) (in-atom k start at u)
 atom-both R Layout start at o u a m h = a
 atom-both R Comment start at o u a m h = a
 atom-both R LParen start at o u a m h = a
@@ -36,35 +45,14 @@ atom-both R Atom start at o u a m h = h
 atom-both R Refused start at o u a m h = m
 
 pub atom-by : (P : Lexed → Type 0) (k : ByteClass) (start at : ℕ) (o : Lexed) → P (token TokenKind.Atom start at) → P (malformed at) → P o
-    → P (elim k as (λ _. Lexed) [
-      | Layout ↦ token TokenKind.Atom start at
-      | Comment ↦ token TokenKind.Atom start at
-      | LParen ↦ token TokenKind.Atom start at
-      | RParen ↦ token TokenKind.Atom start at
-      | Atom ↦ o
-      | Refused ↦ malformed at
-    ])
+    → P (in-atom k start at o)
 atom-by P k start at o a m h = atom-both (λ x y. P x) k start at o o a m h
 
 -- Where a token starts.
 pub here-both : (R : Lexed → Lexed → Type 0) (k : ByteClass) (at : ℕ) (o u : Lexed) → R (malformed at) (malformed at)
     → (k ≡ LParen → R (token TokenKind.LParen at (at + 1)) (token TokenKind.LParen at (at + 1)))
     → (k ≡ RParen → R (token TokenKind.RParen at (at + 1)) (token TokenKind.RParen at (at + 1))) → R o u
-    → R (elim k as (λ _. Lexed) [
-      | Layout ↦ malformed at
-      | Comment ↦ malformed at
-      | LParen ↦ token TokenKind.LParen at (at + 1)
-      | RParen ↦ token TokenKind.RParen at (at + 1)
-      | Atom ↦ o
-      | Refused ↦ malformed at
-    ]) (elim k as (λ _. Lexed) [
-      | Layout ↦ malformed at
-      | Comment ↦ malformed at
-      | LParen ↦ token TokenKind.LParen at (at + 1)
-      | RParen ↦ token TokenKind.RParen at (at + 1)
-      | Atom ↦ u
-      | Refused ↦ malformed at
-    ])
+    → R (at-token k at o) (at-token k at u)
 here-both R Layout at o u m l r h = m
 here-both R Comment at o u m l r h = m
 here-both R LParen at o u m l r h = l refl
@@ -74,14 +62,7 @@ here-both R Refused at o u m l r h = m
 
 pub here-by : (P : Lexed → Type 0) (k : ByteClass) (at : ℕ) (o : Lexed) → P (malformed at)
     → (k ≡ LParen → P (token TokenKind.LParen at (at + 1))) → (k ≡ RParen → P (token TokenKind.RParen at (at + 1))) → P o
-    → P (elim k as (λ _. Lexed) [
-      | Layout ↦ malformed at
-      | Comment ↦ malformed at
-      | LParen ↦ token TokenKind.LParen at (at + 1)
-      | RParen ↦ token TokenKind.RParen at (at + 1)
-      | Atom ↦ o
-      | Refused ↦ malformed at
-    ])
+    → P (at-token k at o)
 here-by P k at o m l r h = here-both (λ x y. P x) k at o o m l r h
 
 -- What holds of each sort of token, and of each refusal, holds of the token that is given.
