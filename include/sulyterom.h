@@ -1,6 +1,6 @@
 /* sulyterom.h: loads a hott-surface/0.1 source into a numbered core module that a kernel can check, tells which
-   declarations depend on which, what binds a reference and how a module is named, and writes and reads core text, by
-   which stations exchange core modules.
+   declarations depend on which, what binds a reference, how a module is named and how much storage a source needs, and
+   writes and reads core text, by which stations exchange core modules.
 
    `rt staticlib sulyterom` makes target/staticlib/libsulyterom.a for x86-64 Linux. Link it:
 
@@ -44,9 +44,9 @@
 
 /* The version of this header and of the library beside it. */
 #define SULYTEROM_VERSION_MAJOR 0
-#define SULYTEROM_VERSION_MINOR 6
+#define SULYTEROM_VERSION_MINOR 7
 #define SULYTEROM_VERSION_PATCH 0
-#define SULYTEROM_VERSION_TEXT "0.6.0"
+#define SULYTEROM_VERSION_TEXT "0.7.0"
 
 #ifdef __cplusplus
 extern "C" {
@@ -58,11 +58,17 @@ extern "C" {
    0. The two row tables need as many rows as the source has terms, the declaration list as many records as it has
    declarations. The work area needs 16,384 words whatever the source.
 
-   A term has at least 3 bytes of source and a declaration at least 17, so that for a source of so many bytes
-   SULYTEROM_ROWS_FOR and SULYTEROM_DECLARATIONS_FOR never lead to a refusal 8, 9 or 10; for the longest source
-   these are 21,845 rows and 3,855 records. The same holds of a core text of so many bytes: its shortest terms are nat
-   and, beside their arguments, forms like (j ..), and its shortest declaration is (postulate"a"nat). Most need much
-   less. Spare words are set to 0 in every call, which takes time.
+   sulyterom_storage tells how many rows and records one source needs: with exactly so many, loading answers and leaves
+   what it does with any more. Without asking, so many rows and records as SULYTEROM_ROWS_FOR and
+   SULYTEROM_DECLARATIONS_FOR give for the bytes of a source suffice, since a term has at least 3 bytes and a
+   declaration at least 17: 8, 9 and 10 are then never given, and loading answers and leaves what it does with any more,
+   also where the source is refused. This is proved, as FewerThanBytes, NeverFull and BytesAreEnough in
+   crates/least_storage/specs/Statements.antt. For the longest source these are 21,845 rows and 3,855 records; most need
+   much less. Spare words are set to 0 in every call, which takes time.
+
+   The same figures suffice for a core text of so many bytes: 9 and 10 are then never given, as TextNeverFull in
+   crates/core_module/specs/Statements.antt says. Its shortest terms are nat and, beside their arguments, forms like
+   (j ..), and its shortest declaration is (postulate"a"nat).
 
    A text buffer of SULYTEROM_TEXT_FOR bytes never leads to a refusal 14, for a source of so many bytes. The head and
    the end of a text have 65 bytes, the head of a source at least 23, and nothing else is printed in more than twice the
@@ -82,7 +88,7 @@ extern "C" {
 #define SULYTEROM_RECORD_WORDS 5
 #define SULYTEROM_WORK_WORDS 16384
 #define SULYTEROM_ANSWER_WORDS 3
-#define SULYTEROM_LONG_ANSWER_WORDS 4 /* of sulyterom_list and sulyterom_token */
+#define SULYTEROM_LONG_ANSWER_WORDS 4 /* of sulyterom_list, sulyterom_token and sulyterom_storage */
 #define SULYTEROM_LONGEST_SOURCE 65535     /* bytes */
 #define SULYTEROM_HEAD_BYTES 65536         /* of a file, with which sulyterom_head answers as with all of it */
 #define SULYTEROM_LONGEST_TEXT 4294967295u /* bytes of a core text that is read */
@@ -265,6 +271,30 @@ uint8_t sulyterom_token(const uint8_t *source, size_t source_length, size_t at, 
    leaves: 6 by the length, then 1 where it is not UTF-8, then what the head is refused for. */
 uint8_t sulyterom_head(const uint8_t *source, size_t source_length, uint64_t *answer, size_t answer_length);
 
+/* Reads a source as loading does, with no table for rows or declarations, and tells what it needs: the rows of each row
+   table, the records of the declaration list, and the frames that are open together in one type or body. A frame is a
+   form with terms in it: empty, unit, star, nat, zero, ref and universe have 0, a form has 1 more than the most of its
+   terms, and a source has the most of its types and bodies. They stand in the work area, which has room for
+   SULYTEROM_MOST_FRAMES. Names are not looked at.
+
+   Accepted: returns 0 and leaves in
+       answer        3, the rows, the declarations, the frames
+       work          0
+
+   Refused, with 11, 6, 1, 2, 3 or 7 as sulyterom_load with tables that suffice, in the same order: returns the class
+   and leaves in
+       answer        1, the offset, 0, 0; or 0, 0, 0, 0 where there is no place
+       work          0
+
+   With row tables of so many rows and a list of so many records, and any words more that make no further one, loading
+   answers and leaves what it does with larger ones; that may be 4 or 5, which are not given here. With fewer surface
+   rows it refuses with 8, with fewer records with 9, with both fewer with the one that reading meets first, which is 9
+   where one of each is missing, and with fewer core rows alone with 10.
+
+   An answer table of fewer than four numbers is left as it is. */
+uint8_t sulyterom_storage(const uint8_t *source, size_t source_length, uint32_t *work, size_t work_length,
+                          uint64_t *answer, size_t answer_length);
+
 /* Asks whether the declaration at place i depends on the one at place j: whether some global row in i's type or body
    names a place that shows j. Place k shows j if k is j, or if a global row in k's type, or in k's body where k is
    transparent, names a place that shows j. So i's own body counts whatever its kind, and an opaque body of a
@@ -422,6 +452,18 @@ typedef struct sulyterom_module_name {
     size_t length; /* of the name; 0 after a refusal */
 } sulyterom_module_name;
 
+/* What sulyterom_storage_of answers: what a source needs, 0 after a refusal. A station lends it rows *
+   SULYTEROM_ROW_WORDS words of surface rows, as many of core rows, declarations * SULYTEROM_RECORD_WORDS words of
+   declarations and SULYTEROM_WORK_WORDS words of work area; in sulyterom_tables rows, rows and declarations. */
+typedef struct sulyterom_needs {
+    sulyterom_class refused;
+    int has_offset;
+    size_t offset;
+    size_t rows;         /* of the surface table, and of the core table */
+    size_t declarations; /* records of the declaration list */
+    size_t frames;       /* open at the same time in one type or body */
+} sulyterom_needs;
+
 /* What sulyterom_depends_in answers. */
 typedef struct sulyterom_dependence {
     sulyterom_class refused;
@@ -534,6 +576,24 @@ static inline sulyterom_module_name sulyterom_head_of(const uint8_t *source, siz
     if (told.refused == SULYTEROM_ACCEPTED) {
         told.start = (size_t)answer[1];
         told.length = (size_t)answer[2];
+    } else {
+        told.has_offset = answer[0] == 1;
+        told.offset = (size_t)answer[1];
+    }
+    return told;
+}
+
+/* As sulyterom_storage. */
+static inline sulyterom_needs sulyterom_storage_of(const uint8_t *source, size_t source_length, uint32_t *work,
+                                                   size_t work_words) {
+    uint64_t answer[SULYTEROM_LONG_ANSWER_WORDS] = {0, 0, 0, 0};
+    sulyterom_needs told = {SULYTEROM_ACCEPTED, 0, 0, 0, 0, 0};
+    told.refused = (sulyterom_class)sulyterom_storage(source, source_length, work, work_words, answer,
+                                                      SULYTEROM_LONG_ANSWER_WORDS);
+    if (told.refused == SULYTEROM_ACCEPTED) {
+        told.rows = (size_t)answer[1];
+        told.declarations = (size_t)answer[2];
+        told.frames = (size_t)answer[3];
     } else {
         told.has_offset = answer[0] == 1;
         told.offset = (size_t)answer[1];

@@ -1,6 +1,6 @@
 //! Loading by the Rattle library against document 01 and the Rust:
 //! loading replay [FOLDER], card, compare [COUNT [SEED]], classes, dependence [COUNT [SEED]], binder [COUNT [SEED]],
-//! same [COUNT [SEED]], head [COUNT [SEED]], program EVERY PROGRAM.
+//! same [COUNT [SEED]], head [COUNT [SEED]], storage [COUNT [SEED]], program EVERY PROGRAM.
 #[cfg(mock)]
 #[allow(dead_code)]
 mod faults;
@@ -25,6 +25,7 @@ mod loading {
     pub mod listing;
     #[cfg(mock)]
     pub mod mock;
+    pub mod needs;
     pub mod order;
     pub mod program;
     pub mod replay;
@@ -35,6 +36,7 @@ mod loading {
     pub mod short;
     pub mod sizes;
     pub mod station;
+    pub mod storage;
     pub mod tables;
 }
 
@@ -53,6 +55,7 @@ fn main() -> ExitCode {
         Some("binder") => loading::binder::run(number(1, loading::binder::COUNT), number(2, 6) as u64),
         Some("head") => loading::head::run(number(1, loading::head::COUNT), number(2, 7) as u64),
         Some("same") => loading::same::run(number(1, loading::same::COUNT), number(2, 5) as u64),
+        Some("storage") => loading::storage::run(number(1, loading::storage::COUNT), number(2, 8) as u64),
         #[cfg(mock)]
         Some("--faults") => print_all(&common::fault::LOADING),
         #[cfg(mock)]
@@ -66,6 +69,8 @@ fn main() -> ExitCode {
         #[cfg(mock)]
         Some("--same-faults") => print_all(&common::fault::SAME),
         #[cfg(mock)]
+        Some("--storage-faults") => print_all(&common::fault::STORAGE),
+        #[cfg(mock)]
         Some("--listing-faults") => print_all(&common::fault::LISTING),
         #[cfg(mock)]
         Some("listing") => loading::mock::listing::print(&mut std::io::stdin()),
@@ -73,8 +78,8 @@ fn main() -> ExitCode {
         _ => loading::mock::listing::command(&words),
         #[cfg(not(mock))]
         _ => {
-            let parts =
-                ["compare", "dependence", "binder", "same", "head"].map(|part| format!("{part} [COUNT [SEED]]"));
+            let parts = ["compare", "dependence", "binder", "same", "head", "storage"]
+                .map(|part| format!("{part} [COUNT [SEED]]"));
             eprintln!(
                 "usage: loading replay [FOLDER] | card | classes | {} | program EVERY PROGRAM",
                 parts.join(" | ")

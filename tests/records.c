@@ -1,6 +1,6 @@
 /* Lends rows and declarations as structs, by the inline functions of sulyterom.h, and compares with the calls that lend
    words: the answer and every word must be equal, for lists of many lengths, and what lies behind the list must stay.
-   Then binders, the listing, reading alone, tokens, module names and core text.
+   Then binders, the listing, reading alone, tokens, module names, the least storage and core text.
    The last line is 'N passed, M failed'. */
 #include "sulyterom.h"
 
@@ -298,6 +298,32 @@ static void module_names(void) {
     check(told.refused == SULYTEROM_MALFORMED && told.has_offset && told.offset == 0, "an empty source", 3, 0);
 }
 
+/* The least storage of a source, and a load with it. */
+static void storages(void) {
+    static const char source[] = HEAD "(postulate x nat)(opaque y (pi x (ref x) (ref x)) (lam z (fst (ref z))))";
+    const uint8_t *s = (const uint8_t *)source;
+    const size_t length = sizeof source - 1;
+    fill(&structs);
+    sulyterom_needs told = sulyterom_storage_of(s, length, structs.work, WORK);
+    check(told.refused == 0 && told.rows == 7 && told.declarations == 2 && told.frames == 2, "the least storage", length, 0);
+    check(!told.has_offset && !told.offset, "the least storage without an offset", length, 0);
+    size_t left_over = 0;
+    for (size_t k = 0; k < WORK; k++) left_over += structs.work[k] != 0;
+    check(left_over == 0, "the work area behind the least storage", length, 0);
+    check(told.rows <= SULYTEROM_ROWS_FOR(length) && told.declarations <= SULYTEROM_DECLARATIONS_FOR(length), "the rule of thumb", length, 0);
+    sulyterom_tables tables = {structs.surface, told.rows, structs.core, told.rows, structs.list, told.declarations, structs.work, WORK};
+    sulyterom_loaded loaded = sulyterom_load_into(s, length, &tables);
+    check(loaded.refused == 0 && loaded.rows == 7 && loaded.declarations == 2, "a load with the least storage", length, 2);
+    tables.surface_rows--;
+    check(sulyterom_load_into(s, length, &tables).refused == SULYTEROM_SURFACE_FULL, "a row less", length, 2);
+    tables.declaration_records--;
+    check(sulyterom_load_into(s, length, &tables).refused == SULYTEROM_DECLARATIONS_FULL, "a row and a record less", length, 1);
+    told = sulyterom_storage_of(s, length - 1, structs.work, WORK);
+    check(told.refused == SULYTEROM_MALFORMED && told.has_offset && told.offset == length - 1 && !told.rows && !told.declarations && !told.frames, "the storage of a source cut off", length - 1, 0);
+    told = sulyterom_storage_of(s, length, structs.work, WORK - 1);
+    check(told.refused == SULYTEROM_WORK_SHORT && !told.has_offset && !told.offset && !told.rows, "the storage by a short work area", length, 0);
+}
+
 /* Where terms start, by the rows of both tables. */
 static void offsets(void) {
     static const char source[] = HEAD "(postulate x nat)(postulate y (pi x (ref x) (ref x)))";
@@ -348,6 +374,7 @@ int main(void) {
     classes();
     tokens();
     module_names();
+    storages();
     offsets();
     binders();
     core_text();

@@ -66,6 +66,11 @@ static void *head(void *unused) {
     return unused;
 }
 
+static void *storage(void *unused) {
+    sulyterom_storage_of((const uint8_t *)source, length, work, SULYTEROM_WORK_WORDS);
+    return unused;
+}
+
 static void *print(void *unused) {
     text_length = sulyterom_print_into((const uint8_t *)source, length, &tables[0], text, sizeof text).length;
     return unused;
@@ -116,6 +121,7 @@ static void all(const char *what) {
     check("a binder", binder);
     check("a comparison", same);
     check("the module's name", head);
+    check("the least storage", storage);
     check("printing", print);
     check("reading a core text", read_core);
     check("reading a core text that is its own print", read_canonical);

@@ -312,6 +312,71 @@ static void names_modules(void) {
     check("no room for the answer", sulyterom_head((const uint8_t *)HEAD, 23, answer, 2) == 0 && answer[0] == 7);
 }
 
+/* The call leaves four numbers. */
+static uint64_t figures[SULYTEROM_LONG_ANSWER_WORDS];
+
+static uint8_t storage(const char *source, size_t length, size_t words) {
+    fill();
+    memset(figures, 0xa5, sizeof figures);
+    return sulyterom_storage((const uint8_t *)source, length, work, words, figures, SULYTEROM_LONG_ANSWER_WORDS);
+}
+
+static void needs(const char *what, const char *source, uint64_t rows, uint64_t declared, uint64_t frames) {
+    int told = storage(source, strlen(source), WORK) == 0 && figures[0] == 3 && figures[1] == rows &&
+               figures[2] == declared && figures[3] == frames;
+    check(what, told && holds(work, WORK, WORK, nothing));
+}
+
+/* A refusal, at an offset or, with -1, nowhere; it leaves 0 in the work area. */
+static void needs_nothing(const char *what, const char *source, size_t length, size_t words, uint8_t number, int offset) {
+    int told = storage(source, length, words) == number && figures[0] == (offset >= 0) && figures[2] == 0 && figures[3] == 0;
+    told = told && figures[1] == (offset < 0 ? 0 : (uint64_t)offset);
+    check(what, told && holds(work, WORK, words, nothing));
+}
+
+static void tells_storage(void) {
+    static const char two[] = HEAD "(opaque a nat (fst (fst star)))(postulate b (fst (ref q)))";
+    needs("01's input needs 4 rows, 2 declarations and a frame", input, 4, 2, 1);
+    check("no row and no declaration is touched", holds(surface, SURFACE, 0, nothing) && holds(core, CORE, 0, nothing) &&
+                                                      holds(declarations, DECLARATIONS, 0, nothing));
+    needs("the head needs nothing", HEAD, 0, 0, 0);
+    needs("a leaf is no frame", HEAD "(postulate a nat)", 1, 1, 0);
+    needs("nor is a reference, of a name that is not known", HEAD "(postulate a (ref q))", 1, 1, 0);
+    needs("nor a universe; names are not compared", HEAD "(postulate a nat)(postulate a (universe 0))", 2, 2, 0);
+    needs("the most frames of all types and bodies", two, 6, 2, 2);
+    needs("512 frames", nested(SULYTEROM_MOST_FRAMES), 514, 1, SULYTEROM_MOST_FRAMES);
+    needs("65,535 bytes", padded(SULYTEROM_LONGEST_SOURCE), 0, 0, 0);
+    needs_nothing("an open parenthesis: 1 at 1", "(", 1, WORK, SULYTEROM_MALFORMED, 1);
+    needs_nothing("not UTF-8: 1 at 14", "(surface 1 0) \xff", 15, WORK, SULYTEROM_MALFORMED, 14);
+    needs_nothing("a mark: 1 at 0", "\xef\xbb\xbf" HEAD, 26, WORK, SULYTEROM_MALFORMED, 0);
+    needs_nothing("the version 1 0: 2", "(surface 1 0) ]", 15, WORK, SULYTEROM_VERSION, -1);
+    needs_nothing("a reserved name: 3 at 34", HEAD "(postulate nat-elim nat)", 47, WORK, SULYTEROM_RESERVED_NAME, 34);
+    needs_nothing("65,536 bytes: 6", padded(LONG), LONG, WORK, SULYTEROM_LONG_SOURCE, -1);
+    nested(SULYTEROM_MOST_FRAMES + 1);
+    needs_nothing("513 frames: 7", text, strlen(text), WORK, SULYTEROM_FRAMES, -1);
+    needs_nothing("a short work area: 11", input, strlen(input), WORK - 1, SULYTEROM_WORK_SHORT, -1);
+    needs_nothing("no work area: 11", "(", 1, 0, SULYTEROM_WORK_SHORT, -1);
+    needs_nothing("11 before 6", padded(LONG), LONG, WORK - 1, SULYTEROM_WORK_SHORT, -1);
+
+    /* with just that, and with one less */
+    lengths lent = {4 * SULYTEROM_ROW_WORDS, 4 * SULYTEROM_ROW_WORDS, 2 * SULYTEROM_RECORD_WORDS, WORK};
+    check("just the storage", load(input, lent) == 0 && answers(2, 4, 2) && hold(lent, surface_rows, core_rows, records));
+    lent.surface = 3 * SULYTEROM_ROW_WORDS;
+    refuses("a surface row less: 8", input, lent, SULYTEROM_SURFACE_FULL, -1);
+    lent.declarations = 1 * SULYTEROM_RECORD_WORDS;
+    refuses("and a record less: 9", input, lent, SULYTEROM_DECLARATIONS_FULL, -1);
+    lent.surface = 4 * SULYTEROM_ROW_WORDS;
+    refuses("a record less: 9", input, lent, SULYTEROM_DECLARATIONS_FULL, -1);
+    lent.declarations = 2 * SULYTEROM_RECORD_WORDS;
+    lent.core = 3 * SULYTEROM_ROW_WORDS;
+    refuses("a core row less: 10", input, lent, SULYTEROM_CORE_SHORT, -1);
+
+    fill();
+    memset(figures, 0xa5, sizeof figures);
+    check("no room for the figures", sulyterom_storage((const uint8_t *)input, strlen(input), work, WORK, figures, 3) == 0 &&
+                                         figures[0] == 0xa5a5a5a5a5a5a5a5u && holds(work, WORK, WORK, nothing));
+}
+
 static void prints_and_reads(void) {
     size_t length = strlen(core_text);
     check("01's input printed", print(input, whole, sizeof buffer) == 0 && answers(1, length, 0));
@@ -411,6 +476,7 @@ int main(void) {
           hold(whole, nothing, nothing, nothing) && second_hold(nothing, nothing, nothing));
 
     names_modules();
+    tells_storage();
     prints_and_reads();
 
     memset(answer, 0xa5, sizeof answer);

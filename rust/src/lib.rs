@@ -54,7 +54,16 @@
 //!
 //! A [`Loader`] has tables of its own and grows them. Where memory is lent by someone else, or is to have a limit, the
 //! functions [`load`], [`depends`], [`binder`], [`same`], [`print`], [`read_core`] and [`read_canonical`] take [`Tables`] of
-//! any sizes.
+//! any sizes, and [`storage`] tells which sizes a source needs:
+//!
+//! ```
+//! use sulyterom::{Storage, Tables, WORK_WORDS, load, storage};
+//!
+//! let source = b"(surface 0 1)(module m)(postulate x nat)(postulate y (pi x (ref x) (ref x)))";
+//! assert_eq!(storage(source, &mut [0; WORK_WORDS])?, Storage { rows: 4, declarations: 2, frames: 1 });
+//! assert_eq!(load(source, &mut Tables::for_source(source)?)?.row_count(), 4);
+//! # Ok::<(), sulyterom::Refusal>(())
+//! ```
 //!
 //! # Building
 //!
@@ -79,6 +88,7 @@ mod printed;
 mod reference;
 mod refusal;
 mod row;
+mod storage;
 mod tables;
 mod token;
 
@@ -96,6 +106,7 @@ pub use printed::Printed;
 pub use reference::{Reference, Target};
 pub use refusal::{Class, Refusal};
 pub use row::{Row, SurfaceRow};
+pub use storage::{Storage, storage};
 pub use tables::Tables;
 pub use token::{Token, TokenKind, token, tokens};
 

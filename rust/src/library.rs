@@ -145,6 +145,15 @@ unsafe extern "C" {
     ) -> u8;
 
     fn sulyterom_head(source: *const u8, source_length: usize, answer: *mut u64, answer_length: usize) -> u8;
+
+    fn sulyterom_storage(
+        source: *const u8,
+        source_length: usize,
+        work: *mut u32,
+        work_length: usize,
+        answer: *mut u64,
+        answer_length: usize,
+    ) -> u8;
 }
 
 /// A class, 0 for an acceptance, a yes and a no; how many values follow, and the values.
@@ -360,5 +369,22 @@ pub fn head(source: &[u8]) -> Told {
     let mut answer = [0; 3];
     // SAFETY: as above.
     let class = unsafe { sulyterom_head(source.as_ptr(), source.len(), answer.as_mut_ptr(), answer.len()) };
+    (class, answer)
+}
+
+/// The class, 0 for an answer; how many values follow, and the values: rows, declarations and frames.
+pub fn storage(source: &[u8], work: &mut [u32]) -> (u8, [u64; 4]) {
+    let mut answer = [0; 4];
+    // SAFETY: as above; the work area is borrowed mutably too.
+    let class = unsafe {
+        sulyterom_storage(
+            source.as_ptr(),
+            source.len(),
+            work.as_mut_ptr(),
+            work.len(),
+            answer.as_mut_ptr(),
+            answer.len(),
+        )
+    };
     (class, answer)
 }

@@ -1,7 +1,10 @@
 //! Tables that are kept and grow.
 use crate::library::Told;
 use crate::tables::{Needs, Sizes};
-use crate::{Bound, Comparison, CoreText, Dependence, Listing, Loaded, Printed, Refusal, Tables, library, text_room};
+use crate::{
+    Bound, Comparison, CoreText, Dependence, Listing, Loaded, Printed, Refusal, Storage, Tables, library, storage,
+    text_room,
+};
 use alloc::vec;
 use alloc::vec::Vec;
 
@@ -46,6 +49,21 @@ impl Loader {
         let needs = Needs::of_source(source.len());
         let told = enough(dense, [needs], |[sizes]| library::load(source, tables.resized(sizes)));
         Loaded::told(source, tables, told)
+    }
+
+    /// Tells what a source needs, as [`storage`](crate::storage()) does. The loader does not grow by it.
+    ///
+    /// ```
+    /// let needs = sulyterom::Loader::new().storage(b"(surface 0 1)(module m)(opaque x nat (succ (succ zero)))")?;
+    /// assert_eq!((needs.rows, needs.declarations, needs.frames), (4, 1, 2));
+    /// # Ok::<(), sulyterom::Refusal>(())
+    /// ```
+    ///
+    /// # Errors
+    ///
+    /// A [`Refusal`] of class 1, 2, 3, 6 or 7.
+    pub fn storage(&mut self, source: &[u8]) -> Result<Storage, Refusal> {
+        storage(source, self.tables.work_area())
     }
 
     /// Gives a source's listing, as [`list`](crate::list) does.

@@ -120,6 +120,14 @@ impl Refusal {
             _ => unreachable!("the library's promise rules out {number} with {answer:?}"),
         }
     }
+
+    /// The same where four numbers are told.
+    pub(crate) fn from_four(number: u8, answer: [u64; 4]) -> Self {
+        match answer {
+            [count, at, second, 0] => Self::from_numbers(number, [count, at, second]),
+            _ => unreachable!("the library's promise rules out {number} with {answer:?}"),
+        }
+    }
 }
 
 impl fmt::Display for Refusal {
@@ -145,6 +153,12 @@ mod tests {
         assert_eq!(offset(3, [1, 0, 0]), Some(0));
         assert_eq!(offset(4, [0, 0, 0]), None);
         assert_eq!(Refusal::from_numbers(11, [0, 0, 0]).class, Class::WorkShort);
+    }
+
+    #[test]
+    fn told_in_four_numbers() {
+        assert_eq!(Refusal::from_four(1, [1, 7, 0, 0]), Refusal { class: Class::Malformed, offset: Some(7) });
+        assert_eq!(Refusal::from_four(7, [0, 0, 0, 0]), Refusal { class: Class::Frames, offset: None });
     }
 
     #[test]

@@ -1,5 +1,5 @@
 //! The tables that are lent.
-use crate::{LONGEST_SOURCE, LONGEST_TEXT, RECORD_WORDS, ROW_WORDS, WORK_WORDS};
+use crate::{LONGEST_SOURCE, LONGEST_TEXT, RECORD_WORDS, ROW_WORDS, Refusal, WORK_WORDS, storage};
 use alloc::vec;
 use alloc::vec::Vec;
 
@@ -35,16 +35,43 @@ impl Tables {
         Sizes { surface: rows, core: rows, declarations }.tables()
     }
 
-    /// Tables that suffice for every source of so many bytes: a term has at least 3 and a declaration at least 17.
+    /// Tables that are just as long as a source needs, all words 0: loading into them answers what it does with longer ones.
+    /// The source is read for it, as [`storage`](crate::storage()) does.
     ///
-    /// Most sources need much less. Spare words are set to 0 by every load, which takes time.
+    /// ```
+    /// use sulyterom::{Class, Tables, load};
+    ///
+    /// let source = b"(surface 0 1)(module m)(postulate x nat)(postulate y (pi x (ref x) (ref x)))";
+    /// let mut tables = Tables::for_source(source)?;
+    /// assert_eq!(tables, Tables::with_sizes(4, 2));
+    /// assert_eq!(load(source, &mut tables)?.declaration_count(), 2);
+    /// // names are looked at by loading alone
+    /// let source = b"(surface 0 1)(module m)(postulate x (ref q))";
+    /// assert_eq!(load(source, &mut Tables::for_source(source)?).unwrap_err().class, Class::UnknownName);
+    /// # Ok::<(), sulyterom::Refusal>(())
+    /// ```
+    ///
+    /// # Errors
+    ///
+    /// A [`Refusal`] of class 1, 2, 3, 6 or 7: so loading refuses the source with tables of any sizes that suffice.
+    pub fn for_source(source: &[u8]) -> Result<Self, Refusal> {
+        let mut work = vec![0; WORK_WORDS];
+        let [surface, core, declarations, _] = storage(source, &mut work)?.words();
+        Ok(Self { surface: vec![0; surface], core: vec![0; core], declarations: vec![0; declarations], work })
+    }
+
+    /// Tables that suffice for every source of so many bytes: a term has at least 3 and a declaration at least 17. That they
+    /// do is proved, of sources that are refused too.
+    ///
+    /// Most sources need much less, which [`Tables::for_source`] lends. Spare words are set to 0 by every load, which takes
+    /// time.
     #[must_use]
     pub fn for_bytes(bytes: usize) -> Self {
         Needs::of_source(bytes).most.tables()
     }
 
     /// Tables that suffice for every core text of so many bytes: in it too a term has at least 3 and a declaration at
-    /// least 17. There are no surface rows.
+    /// least 17, which is proved too. There are no surface rows.
     #[must_use]
     pub fn for_text(bytes: usize) -> Self {
         Needs::of_text(bytes).most.tables()
@@ -54,13 +81,19 @@ impl Tables {
         Self { surface: Vec::new(), core: Vec::new(), declarations: Vec::new(), work: Vec::new() }
     }
 
+    /// A work area as long as is needed.
+    pub(crate) fn work_area(&mut self) -> &mut [u32] {
+        self.work.resize(WORK_WORDS, 0);
+        &mut self.work
+    }
+
     /// The tables with these sizes and no word more: a call has to clear no spare words, and behind what it leaves there
     /// are none of a call before. The memory is kept.
     pub(crate) fn resized(&mut self, Sizes { surface, core, declarations }: Sizes) -> Tables<&mut [u32]> {
         self.surface.resize(surface * ROW_WORDS, 0);
         self.core.resize(core * ROW_WORDS, 0);
         self.declarations.resize(declarations * RECORD_WORDS, 0);
-        self.work.resize(WORK_WORDS, 0);
+        self.work_area();
         self.lend()
     }
 }

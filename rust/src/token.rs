@@ -42,8 +42,7 @@ pub struct Token {
 pub fn token(source: &[u8], at: usize) -> Result<Token, Refusal> {
     let (kind, start, end) = match library::token(source, at) {
         (0, [3, kind, start, end]) => (kind, start as usize, end as usize),
-        (class, [count, offset, 0, 0]) => return Err(Refusal::from_numbers(class, [count, offset, 0])),
-        (class, answer) => unreachable!("the library's promise rules out {class} with {answer:?}"),
+        (class, answer) => return Err(Refusal::from_four(class, answer)),
     };
     let kind = match kind {
         1 => TokenKind::LeftParenthesis,

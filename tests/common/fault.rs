@@ -276,6 +276,52 @@ pub const HEAD: [&str; 16] = [
     "head-reserved-taken",
 ];
 
+/// Of the least storage.
+pub const STORAGE: [&str; 37] = [
+    // frames
+    "storage-leaf-is-a-frame",
+    "storage-ref-is-a-frame",
+    "storage-forms-for-frames",
+    "storage-frames-of-the-first-argument",
+    "storage-frames-of-the-last-argument",
+    "storage-frames-of-the-last-term",
+    "storage-frames-of-types-alone",
+    "storage-frames-of-bodies-alone",
+    "storage-frames-of-type-and-body",
+    "storage-frames-of-all-terms",
+    "storage-without-frames",
+    // rows and declarations
+    "storage-rows-without-types",
+    "storage-rows-of-types-alone",
+    "storage-forms-for-rows",
+    "storage-words-for-rows",
+    "storage-a-row-more",
+    "storage-a-declaration-more",
+    "storage-definitions-alone",
+    "storage-figures-swapped",
+    // refusals that this call does not give
+    "storage-gives-four",
+    "storage-gives-five",
+    "storage-gives-eight",
+    "storage-gives-nine",
+    // and those that it gives
+    "storage-without-seven",
+    "storage-seven-at-512",
+    "storage-without-eleven",
+    "storage-eleven-at-16384",
+    "storage-eleven-after-six",
+    "storage-without-six",
+    "storage-utf8-before-six",
+    "storage-without-utf8",
+    "storage-skips-the-mark",
+    "storage-refuses-nowhere",
+    // what is left in the work area
+    "storage-leaves-the-work-area",
+    "storage-refusal-leaves-the-work-area",
+    "storage-eleven-leaves-the-work-area",
+    "storage-clears-16384-words",
+];
+
 /// Of printing core text.
 pub const PRINTING: [&str; 22] = [
     "semantic-head",
@@ -390,8 +436,20 @@ pub fn fault() -> &'static str {
     static FAULT: OnceLock<String> = OnceLock::new();
     FAULT.get_or_init(|| {
         let name = std::env::var("FAULT").unwrap_or_default();
-        let known =
-            [&TEXT[..], &LOADING, &CLASSES, &DEPENDENCE, &BINDER, &SAME, &HEAD, &LISTING, &PRINTING, &READING].concat();
+        let known = [
+            &TEXT[..],
+            &LOADING,
+            &CLASSES,
+            &DEPENDENCE,
+            &BINDER,
+            &SAME,
+            &HEAD,
+            &STORAGE,
+            &LISTING,
+            &PRINTING,
+            &READING,
+        ]
+        .concat();
         assert!(name.is_empty() || known.contains(&name.as_str()), "no fault is called {name}");
         name
     })

@@ -165,11 +165,24 @@ const fn rows(count: usize) -> Sizes {
 
 pub fn run() -> ExitCode {
     let mut tally = Tally::default();
-    for (sizes, escaped, answer) in [&CARD[..], &FRAMES, &ROWS, &RECORDS, &ORDER, &SCOPE].concat() {
-        let source = unescape(&escaped.replace("{H}", HEAD)).expect("an escaped source");
+    for (sizes, escaped, answer) in all() {
+        let source = source(escaped);
         tally.count(&source, read_out(&source, sizes, answer));
     }
     tally.finish()
+}
+
+/// The sources of all readings.
+pub fn sources() -> impl Iterator<Item = Vec<u8>> {
+    all().into_iter().map(|(_, escaped, _)| source(escaped))
+}
+
+fn all() -> Vec<Reading> {
+    [&CARD[..], &FRAMES, &ROWS, &RECORDS, &ORDER, &SCOPE].concat()
+}
+
+fn source(escaped: &str) -> Vec<u8> {
+    unescape(&escaped.replace("{H}", HEAD)).expect("an escaped source")
 }
 
 /// Loads, compares every word with what is expected, and the answer with what is written above.

@@ -70,42 +70,47 @@ const NAME_PLACES: [(usize, usize); 8] = [(1, 0), (3, 0), (3, 1), (3, 2), (17, 7
 
 pub fn run() -> ExitCode {
     let mut comparison = Comparison { tally: Tally::default(), answers: [0; 6] };
-    comparison.part("reserved words and their like as names", |comparison| comparison.words(Comparison::named));
-    comparison.part("the same as words", |comparison| comparison.words(Comparison::worded));
-    comparison.part("comments", Comparison::comments);
-    comparison.part("long comments", Comparison::long_comments);
-    comparison.part("every byte in names", Comparison::bytes_of_names);
-    comparison.part("names with one other byte", Comparison::names);
-    comparison.part("runs of layout", Comparison::layout);
-    comparison.part("every byte in every place of a module", Comparison::bytes);
+    visit_all(|source| comparison.check(source));
     comparison.finish()
 }
 
-struct Comparison {
-    tally: Tally,
-    /// How often each class came, and acceptance as 0. Tables suffice, so that none above 5 comes.
-    answers: [usize; 6],
+/// Visits every source of this part, and prints how many there are of each sort.
+pub fn visit_all(visit: impl FnMut(&[u8])) {
+    let mut sources = Sources { by: visit, visited: 0 };
+    sources.part("reserved words and their like as names", |sources| sources.words(Sources::named));
+    sources.part("the same as words", |sources| sources.words(Sources::worded));
+    sources.part("comments", Sources::comments);
+    sources.part("long comments", Sources::long_comments);
+    sources.part("every byte in names", Sources::bytes_of_names);
+    sources.part("names with one other byte", Sources::names);
+    sources.part("runs of layout", Sources::layout);
+    sources.part("every byte in every place of a module", Sources::bytes);
 }
 
-impl Comparison {
+struct Sources<Visit> {
+    by: Visit,
+    visited: usize,
+}
+
+impl<Visit: FnMut(&[u8])> Sources<Visit> {
     fn part(&mut self, what: &str, part: impl Fn(&mut Self)) {
-        let before = self.checked();
+        let before = self.visited;
         part(self);
-        println!("{what}: {}", self.checked() - before);
+        println!("{what}: {}", self.visited - before);
     }
 
-    /// How many sources were loaded as is right.
-    fn checked(&self) -> usize {
-        self.answers.iter().sum()
+    fn visit(&mut self, source: &[u8]) {
+        self.visited += 1;
+        (self.by)(source);
     }
 
     fn bytes(&mut self) {
         let module = filled(MODULE, b"");
         for other in every() {
             for at in 0..=module.len() {
-                self.check(&[&module[..at], &other, &module[at..]].concat());
+                self.visit(&[&module[..at], &other, &module[at..]].concat());
                 if at < module.len() {
-                    self.check(&[&module[..at], &other, &module[at + 1..]].concat());
+                    self.visit(&[&module[..at], &other, &module[at + 1..]].concat());
                 }
             }
         }
@@ -128,7 +133,7 @@ impl Comparison {
                 let spaces = OTHERS.map(|other| replaced(&vec![b' '; length], at, other.as_bytes()));
                 let tabs = replaced(&vec![b'\t'; length], at, b" ");
                 for run in spaces.into_iter().chain([tabs]) {
-                    LAYOUT.iter().for_each(|module| self.check(&filled(module, &run)));
+                    LAYOUT.iter().for_each(|module| self.visit(&filled(module, &run)));
                 }
             }
         }
@@ -141,7 +146,7 @@ impl Comparison {
             for at in 0..length {
                 for other in IN_COMMENTS {
                     let comment = comment(&replaced(&text, at, other.as_bytes()));
-                    self.check(&filled(COMMENTED, &comment));
+                    self.visit(&filled(COMMENTED, &comment));
                 }
             }
         }
@@ -151,7 +156,7 @@ impl Comparison {
         let text = vec![b'c'; LONG_COMMENT];
         for at in 0..LONG_COMMENT {
             for other in IN_LONG_COMMENTS {
-                self.check(&filled(COMMENTED, &comment(&replaced(&text, at, other))));
+                self.visit(&filled(COMMENTED, &comment(&replaced(&text, at, other))));
             }
         }
     }
@@ -178,34 +183,42 @@ impl Comparison {
     /// Layout in every place, and as the last bytes of the source.
     fn everywhere(&mut self, layout: &[u8]) {
         for module in LAYOUT {
-            self.check(&filled(module, layout));
+            self.visit(&filled(module, layout));
             let beginning = module.split('~').next().expect("a beginning");
-            self.check(&[&filled(beginning, b"")[..], layout].concat());
+            self.visit(&[&filled(beginning, b"")[..], layout].concat());
         }
     }
 
     /// A name in every place, behind layout of each sort, and as the last bytes of the source.
     fn named(&mut self, name: &[u8]) {
         for before in BEFORE_NAMES {
-            NAMED.iter().for_each(|module| self.check(&filled(module, &[before.as_bytes(), name].concat())));
+            NAMED.iter().for_each(|module| self.visit(&filled(module, &[before.as_bytes(), name].concat())));
         }
-        ENDED.iter().for_each(|module| self.check(&filled(module, &[b" ", name].concat())));
+        ENDED.iter().for_each(|module| self.visit(&filled(module, &[b" ", name].concat())));
     }
 
     /// A word in every place, with no layout before it and with some.
     fn worded(&mut self, word: &[u8]) {
         for before in ["", " ", "\n  "] {
-            WORDED.iter().for_each(|module| self.check(&filled(module, &[before.as_bytes(), word].concat())));
+            WORDED.iter().for_each(|module| self.visit(&filled(module, &[before.as_bytes(), word].concat())));
         }
     }
+}
 
+struct Comparison {
+    tally: Tally,
+    /// How often each class came, and acceptance as 0. Tables suffice, so that none above 5 comes.
+    answers: [usize; 6],
+}
+
+impl Comparison {
     /// Loads with tables of exactly the sizes that reading needs.
     fn check(&mut self, source: &[u8]) {
         if self.tally.is_hopeless() {
             return;
         }
         let reference = Reference::new(source);
-        let rubbish = Rubbish::ALL[self.checked() % Rubbish::ALL.len()];
+        let rubbish = Rubbish::ALL[self.answers.iter().sum::<usize>() % Rubbish::ALL.len()];
         let mismatch = match loaded(&reference, exact(reference.need()), rubbish) {
             Ok(loaded) => {
                 self.answers[usize::from(loaded.class)] += 1;

@@ -62,6 +62,11 @@ impl<'a> Reference<'a> {
         self.resolved.as_ref().ok()
     }
 
+    /// The Rust's module of a source that it reads, whatever its names are.
+    pub fn module(&self) -> Option<&SurfaceModule> {
+        self.read.as_ref().ok()
+    }
+
     /// How many rows and declarations are wanted before reading ends, however it ends.
     pub fn need(&self) -> Limits {
         let counts = |reading: &Reading| Limits { rows: reading.rows.len(), declarations: reading.opened };

@@ -30,16 +30,26 @@ pub fn head(source: &[u8], answer: &mut [u64; 3]) -> u8 {
     numbers(sulyterom::head(source).map(|name| [2, name.start as u64, name.bytes.len() as u64]), answer)
 }
 
+/// What a source needs: the class, 0 for an answer; the answer is 3, the rows, the declarations and the frames.
+pub fn storage(source: &[u8], work: &mut [u32], answer: &mut [u64; 4]) -> u8 {
+    let told = sulyterom::storage(source, work);
+    numbers(told.map(|needs| [3, needs.rows as u64, needs.declarations as u64, needs.frames as u64]), answer)
+}
+
 pub fn tables(lent: Tables<&mut [u32]>) -> sulyterom::Tables<&mut [u32]> {
     let Tables { surface, core, declarations, work } = lent;
     sulyterom::Tables::from_words(surface, core, declarations, work)
 }
 
-fn at_most_one(value: Option<usize>) -> [u64; 3] {
-    value.map_or([0; 3], |value| [1, value as u64, 0])
+fn at_most_one<const N: usize>(value: Option<usize>) -> [u64; N] {
+    let mut numbers = [0; N];
+    if let Some(value) = value {
+        [numbers[0], numbers[1]] = [1, value as u64];
+    }
+    numbers
 }
 
-pub fn numbers(told: Result<[u64; 3], Refusal>, answer: &mut [u64; 3]) -> u8 {
+pub fn numbers<const N: usize>(told: Result<[u64; N], Refusal>, answer: &mut [u64; N]) -> u8 {
     match told {
         Ok(values) => {
             *answer = values;

@@ -7,6 +7,7 @@ pub mod listing;
 mod reading;
 mod resolving;
 pub mod sameness;
+mod storage;
 mod words;
 
 use super::tables::{RECORD, ROW, Tables, WORK};
@@ -82,14 +83,18 @@ pub fn head(source: &[u8], answer: &mut [u64; 3]) -> u8 {
     report(head::answer(source), answer)
 }
 
+pub fn storage(source: &[u8], work: &mut [u32], answer: &mut [u64; 4]) -> u8 {
+    report(storage::answer(source, work), answer)
+}
+
 /// Writes the values of an answer, and gives its class.
-pub fn report(outcome: Result<Vec<usize>, Refusal>, answer: &mut [u64; 3]) -> u8 {
+pub fn report<const N: usize>(outcome: Result<Vec<usize>, Refusal>, answer: &mut [u64; N]) -> u8 {
     let (class, values) = match outcome {
         Ok(values) => (0, values),
         Err(Refusal { class, offset }) => (class, offset.into_iter().collect()),
     };
     if !is("unused-values-left") {
-        *answer = [0; 3];
+        *answer = [0; N];
     }
     answer[0] = values.len() as u64;
     answer[1..].iter_mut().zip(values).for_each(|(number, value)| *number = value as u64);

@@ -44,6 +44,25 @@ pub fn head(source: &[u8]) -> (u8, [u64; 3]) {
     (class, answer)
 }
 
+/// What the question for the least storage leaves.
+pub struct Needed {
+    /// 0 for an answer.
+    pub class: u8,
+    /// How many values follow, and the values: rows, declarations and frames, or an offset.
+    pub answer: [u64; 4],
+    pub work: Vec<u32>,
+    /// Whether a word beside the work area was changed.
+    pub outside: bool,
+}
+
+/// Asks what a source needs, with a work area of so many words.
+pub fn storage(source: &[u8], words: usize, rubbish: Rubbish) -> Needed {
+    let mut work = guarded(rubbish, words);
+    let mut answer = [u64::MAX; 4];
+    let class = library::storage(source, lent(&mut work), &mut answer);
+    Needed { class, answer, outside: is_changed_outside(&work), work: inside(work) }
+}
+
 /// Asks whether two sources leave the same core. The work area is the first set's; the answer stands with both.
 pub fn same(sources: [&[u8]; 2], sizes: [Sizes; 2], rubbish: Rubbish) -> [Loaded; 2] {
     let mut second = None;
@@ -60,18 +79,9 @@ pub fn lend(sizes: Sizes, rubbish: Rubbish, call: impl FnOnce(Tables<&mut [u32]>
     let mut tables = sizes.map(|words| guarded(rubbish, words));
     let mut answer = [u64::MAX; 3];
     let class = call(tables.each_mut().map(|words| lent(words)), &mut answer);
-    let changed = |words: &[u32]| words.iter().any(|word| *word != GUARD_WORD);
-    let outside = tables.named().into_iter().find(|(_, words)| {
-        let (before, rest) = words.split_at(GUARD);
-        changed(before) || changed(&rest[rest.len() - GUARD..])
-    });
+    let outside = tables.named().into_iter().find(|(_, words)| is_changed_outside(words));
     let outside = outside.map(|(name, _)| name);
-    let tables = tables.map(|mut words| {
-        words.truncate(words.len() - GUARD);
-        words.drain(..GUARD);
-        words
-    });
-    Loaded { class, answer, tables, outside }
+    Loaded { class, answer, tables: tables.map(inside), outside }
 }
 
 /// A table's words with guards around them.
@@ -85,4 +95,17 @@ fn guarded(rubbish: Rubbish, count: usize) -> Vec<u32> {
 fn lent(words: &mut [u32]) -> &mut [u32] {
     let end = words.len() - GUARD;
     &mut words[GUARD..end]
+}
+
+/// Whether a guard is no longer what it was.
+fn is_changed_outside(words: &[u32]) -> bool {
+    let changed = |words: &[u32]| words.iter().any(|word| *word != GUARD_WORD);
+    changed(&words[..GUARD]) || changed(&words[words.len() - GUARD..])
+}
+
+/// The words without their guards.
+fn inside(mut words: Vec<u32>) -> Vec<u32> {
+    words.truncate(words.len() - GUARD);
+    words.drain(..GUARD);
+    words
 }

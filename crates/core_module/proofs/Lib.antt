@@ -21,6 +21,7 @@ pub mod Canonical
 mod ReadBack
 pub mod RoundTrip
 pub mod Refusals
+pub mod NeverFull
 pub mod Spelling
 mod Examples
 pub mod Statements

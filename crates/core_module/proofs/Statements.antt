@@ -1,8 +1,9 @@
 -- A proof of each headline statement (specs/Statements), from the file that has it.
-use Rattle.core_module.specs.Statements.{RoundTrip, PrintsLoaded, CanonicalExactly, ReadingRefusals, TextRows, OneSpelling, SameSpelling}
+use Rattle.core_module.specs.Statements.{RoundTrip, PrintsLoaded, CanonicalExactly, ReadingRefusals, TextNeverFull, TextRows, OneSpelling, SameSpelling}
 use Rattle.core_module.proofs.RoundTrip as trip
 use Rattle.core_module.proofs.Canonical as canonical
 use Rattle.core_module.proofs.Refusals as refusals
+use Rattle.core_module.proofs.NeverFull as full
 use Rattle.core_module.proofs.TextRows as rows
 use Rattle.core_module.proofs.Spelling as spelling
 
@@ -17,6 +18,9 @@ canonical-exactly = canonical.canonical-exactly
 
 pub reading-refusals : ReadingRefusals
 reading-refusals = refusals.reading-refusals
+
+pub text-never-full : TextNeverFull
+text-never-full = full.text-never-full
 
 pub text-rows : TextRows
 text-rows = rows.text-rows-begin

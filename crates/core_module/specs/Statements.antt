@@ -3,6 +3,7 @@ use mathlib.Core.Path.{_≡_}
 use mathlib.Core.Logic.{_↔_, _⊎_}
 use mathlib.Core.List.{List, [], _∷_, map}
 use mathlib.Core.Option.{some}
+use mathlib.Core.Bool.{false}
 use Prim.Native.Nat.{ℕ, _-_, _/_, _≤_, _<_}
 use lib.ListN.{length, getD, take}
 use Rattle.token.specs.declared.Token.{Token}
@@ -21,11 +22,12 @@ use Rattle.surface.specs.Reader.{Position, start, done, nowhere, at-offset}
 use Rattle.surface.specs.Tables.{Lengths, Tables, lengths, blank, leaves}
 use Rattle.surface.specs.Loading.{load, Loads}
 use Rattle.surface.specs.SameCore.{row-count, declaration-count, Accepts}
+use Rattle.least_storage.specs.Statements.{is-full}
 use Rattle.core_text.specs.TextReading.{string}
 use Rattle.printing.specs.declared.Printed.{Printed}
 use Rattle.printing.specs.Printing.{print-module}
 use Rattle.printing.specs.PrintCall.{Prints}
-use Rattle.core_module.specs.CoreText.{spelled-text, reading-text, read-core, ReadsCore, ReadsCanonical}
+use Rattle.core_module.specs.CoreText.{spelled-text, reading-text, read-core, read-canonical, ReadsCore, ReadsCanonical}
 use Rattle.core_module.specs.SameText.{SameText}
 use Rattle.core_module.specs.Escapes.{says, written}
 
@@ -90,6 +92,14 @@ ReadingRefusals =
     (t : List ℕ) (before : Tables) (r : Refusal) (after : Tables)
     → (ReadsCore t before (Answer.Refused r) after → TextRefusal (length t) r × (after ≡ blank (lengths before)))
     × (ReadsCanonical t before (Answer.Refused r) after → (TextRefusal (length t) r ⊎ (r ≡ nowhere 13)) × (after ≡ blank (lengths before)))
+
+-- REQ 08, of a core text as of a source: a term has at least 3 bytes and a declaration at least 17, so with tables for so many bytes neither
+-- call answers 9 or 10, of whatever text.
+abbrev pub TextNeverFull : Type 0
+TextNeverFull =
+    (t : List ℕ) (z : Lengths) → length t / 3 ≤ z .core / 8 → length t / 17 ≤ z .declarations / 5
+    → ((r : Refusal) → read-core t z .answer ≡ Answer.Refused r → is-full (r .class) ≡ false)
+    × ((r : Refusal) → read-canonical t z .answer ≡ Answer.Refused r → is-full (r .class) ≡ false)
 
 -- `(` and the word of the form f, from an offset on.
 pub record Tagged (t : List ℕ) (at : ℕ) (f : Form) (o w : Token) : Type 0 where

@@ -10,14 +10,14 @@ use Rattle.token.specs.declared.Lexed.{Lexed}
 use Rattle.token.specs.declared.Lexed.the-variants.{Got, Refused}
 use Rattle.words.specs.Words.{ascii}
 use Rattle.core_token.specs.CoreToken.{next-core-token}
-use Rattle.terms.specs.Tree.{Forest, nil, Tree, tree, maybe, next}
+use Rattle.terms.specs.Tree.{nil, Tree, tree, maybe, next}
 use Rattle.terms.specs.Label.{Label, Declaration, trees}
 use Rattle.terms.proofs.Cells.{next-cells}
 use Rattle.terms.proofs.Widths.{total}
 use Rattle.surface.specs.Reader.{Position, start, Result, done, refused, Reader, after, _>>=_, pure}
 use Rattle.surface.specs.Text.{is-close}
 use Rattle.surface.specs.Reading.{term, closing, lexed, beginning, declarations}
-use Rattle.core_text.specs.TextReading.{text-edition, string, end-token, text-head, declarations-line, read-text}
+use Rattle.core_text.specs.TextReading.{text-edition, string, end-token, declarations-line, read-text}
 use Rattle.expects.specs.declared.Format.{Format}
 use Rattle.expects.specs.Expects.{position-at, Reads}
 use Rattle.expects.specs.Lines.{tag}
@@ -31,7 +31,7 @@ use Rattle.reader.specs.Parts.{ReadsDeclarations}
 use Rattle.reader.proofs.Answers.{inside-first, all-from, all-refused, all-read}
 use Rattle.core_reader.specs.declared.Passed.{Passed}
 use Rattle.core_reader.specs.Heads.{head, text-end, behind-tag, passed, Passes}
-use Rattle.core_reader.specs.Texts.{ReadsText, ReadsWhole, ReadsBehind}
+use Rattle.core_reader.specs.Texts.{ReadsWhole, ReadsBehind}
 use Rattle.core_reader.proofs.Flat.{behind, flat, declarations-tag}
 
 -- The end is two tokens.
@@ -64,18 +64,18 @@ module _ (s table list work : List ℕ) (at : ℕ) where
         let i = inside-first (limits .rows) s work at short (omega arith) within in
         rw (from-here ∙ ap (λ y. after y (λ ds. text-end s >>= (λ e. pure ds))) (all-refused Format.Core01 limits s table list work at i x table₁ list₁ g r e)) refl
 
-    module _ (n k next : ℕ) (e : x ≡ DeclarationsRead.Done n k next) (y : Passed) (h : Passes (text-end s) next y) where
+    module _ (n k next frames : ℕ) (e : x ≡ DeclarationsRead.Done n k next frames) (y : Passed) (h : Passes (text-end s) next y) where
       pub end-refused : (r : Refusal) → y ≡ Passed.Refused r → ReadsBehind answer s table list work at (ModuleRead.Refused r) table₁ list₁
       end-refused r j = λ short wide within.
           let i = inside-first (limits .rows) s work at short (omega arith) within in
-          let a = all-read Format.Core01 limits s table list work at i x table₁ list₁ g n k next e in
+          let a = all-read Format.Core01 limits s table list work at i x table₁ list₁ g n k next frames e in
           rw (from-here ∙ ap (λ y. after y (λ ds. text-end s >>= (λ e. pure ds))) (a .read) ∙ ap (λ y. after y (λ e. pure (a .declarations))) (h n ∙ ap (passed n) j)) refl
 
       pub text-done : (end : ℕ) → y ≡ Passed.At end → ReadsBehind answer s table list work at (ModuleRead.Done n k) table₁ list₁
       unfolding text-edition
       text-done end j = λ short wide within.
           let i = inside-first (limits .rows) s work at short (omega arith) within in
-          let a = all-read Format.Core01 limits s table list work at i x table₁ list₁ g n k next e in
+          let a = all-read Format.Core01 limits s table list work at i x table₁ list₁ g n k next frames e in
           rw (from-here ∙ ap (λ y. after y (λ ds. text-end s >>= (λ e. pure ds))) (a .read) ∙ ap (λ y. after y (λ e. pure (a .declarations))) (h n ∙ ap (passed n) j))
           (ap (ModuleRead.Done n) (a .count), a .rows (omega arith), a .records (omega arith), omega (arith, few 0 (a .declarations), a .onward .rows, a .onward .slow, a .onward .high, short))
 

@@ -187,6 +187,7 @@ fn read_behind(
             rows,
             declarations,
             next,
+            frames: _,
         } => {
             let e = read_end(s, classes, next);
             match e {

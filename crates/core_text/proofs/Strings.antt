@@ -15,7 +15,7 @@ use Rattle.surface.proofs.Takes.{after-go, require-go, to, token-takes}
 use Rattle.core_text.specs.TextReading.{string, end-token}
 use Rattle.core_text.specs.TextGrammar.{Quotes, between}
 
-string-is : (k : TokenKind) → is-string k ≡ true → k ≡ TokenKind.String
+pub string-is : (k : TokenKind) → is-string k ≡ true → k ≡ TokenKind.String
 string-is TokenKind.LParen e = absurd (false≢true e)
 string-is TokenKind.RParen e = absurd (false≢true e)
 string-is TokenKind.Atom e = absurd (false≢true e)

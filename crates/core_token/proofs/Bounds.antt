@@ -31,7 +31,7 @@ module _ (lo hi start : ℕ) (h : lo ≤ start) where
   string-span (b ∷ l) (lead e) at p q = test-by (Within lo hi) (leb b 0x9F) _ _ tt (string-span l nothing (at + 1) (omega arith) (omega arith))
 
 -- The list stands at an offset, and ends at hi unless it is empty.
-token-span : (l : List ℕ) (lo at hi : ℕ) → lo ≤ at → (lo ≤ hi → at ≤ hi) → length l ≡ hi - at → Within lo hi (core-token-from at l)
+pub token-span : (l : List ℕ) (lo at hi : ℕ) → lo ≤ at → (lo ≤ hi → at ≤ hi) → length l ≡ hi - at → Within lo hi (core-token-from at l)
 unfolding core-token-from
 token-span [] lo at hi h k e = λ f. let g : at ≤ hi = k f in (omega arith, omega arith)
 token-span (b ∷ l) lo at hi h k e =

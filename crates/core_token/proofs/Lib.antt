@@ -4,3 +4,4 @@ pub mod Outcomes
 pub mod Bounds
 pub mod Parentheses
 pub mod Ends
+pub mod Apart

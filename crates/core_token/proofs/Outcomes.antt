@@ -1,10 +1,14 @@
 -- What a byte's class makes of an atom, a string and a token: what holds of each outcome holds of what is given.
 use Prim.Native.Nat.{ℕ, _+_}
 use mathlib.Core.Path.{_≡_, refl}
-use mathlib.Core.Bool.{Bool, true, false, cond}
+use mathlib.Core.Bool.{Bool, true, false, cond, _||_}
+use mathlib.Core.List.{List, [], _∷_}
+use lib.Dec.{leb, eqb}
+use lib.ListN.{drop}
 use Rattle.token.specs.Token.{token, malformed}
 use Rattle.token.specs.declared.TokenKind.{TokenKind}
 use Rattle.token.specs.declared.Lexed.{Lexed}
+use Rattle.core_token.specs.CoreToken.{core-class, string-class, core-atom-from, Open, nothing, backslash, lead, string-from, core-token-from, next-core-token}
 use Rattle.core_token.specs.declared.CoreClass.{CoreClass}
 use Rattle.core_token.specs.declared.CoreClass.the-variants.{Layout, LParen, RParen, Quote, Atom, Refused}
 use Rattle.core_token.specs.declared.StringClass.{StringClass}
@@ -63,3 +67,34 @@ module _ (P : Lexed → Type 0) where
   here-by Quote at n q a hn hl hr hq ha hm = hq refl
   here-by Atom at n q a hn hl hr hq ha hm = ha
   here-by Refused at n q a hn hl hr hq ha hm = hm
+
+-- What holds of each sort of token, and of each refusal, holds of the token that is given.
+module _ (P : Lexed → Type 0) (string : (a e : ℕ) → P (token TokenKind.String a e)) (refused : (p : ℕ) → P (malformed p)) where
+  pub every-string : (l : List ℕ) (start : ℕ) (o : Open) (at : ℕ) → P (string-from start o at l)
+  unfolding string-from
+  every-string [] start nothing at = refused start
+  every-string [] start (backslash e) at = refused e
+  every-string [] start (lead e) at = refused start
+  every-string (b ∷ l) start nothing at =
+      string-by P (string-class b) at _ _ _ _ (λ _. cond-by P (eqb at (start + 1)) _ _ (refused start) (λ _. string start (at + 1)))
+      (every-string l start (backslash at) (at + 1)) (refused at) (every-string l start (lead at) (at + 1)) (every-string l start nothing (at + 1))
+  every-string (b ∷ l) start (backslash e) at = test-by P (eqb b 34 || eqb b 92) _ _ (every-string l start nothing (at + 1)) (refused e)
+  every-string (b ∷ l) start (lead e) at = test-by P (leb b 0x9F) _ _ (refused e) (every-string l start nothing (at + 1))
+
+  module _ (opens : (a e : ℕ) → P (token TokenKind.LParen a e)) (closes : (a e : ℕ) → P (token TokenKind.RParen a e))
+      (atom : (a e : ℕ) → P (token TokenKind.Atom a e)) (ends : (a e : ℕ) → P (token TokenKind.Eof a e)) where
+    every-atom : (l : List ℕ) (start at : ℕ) → P (core-atom-from start at l)
+    unfolding core-atom-from
+    every-atom [] start at = atom start at
+    every-atom (b ∷ l) start at = atom-by P (core-class b) start at _ (atom start at) (refused at) (every-atom l start (at + 1))
+
+    every-here : (l : List ℕ) (at : ℕ) → P (core-token-from at l)
+    unfolding core-token-from
+    every-here [] at = ends at at
+    every-here (b ∷ l) at =
+        here-by P (core-class b) at _ _ _ (every-here l (at + 1)) (λ _. opens at (at + 1)) (closes at (at + 1))
+        (λ _. every-string l at nothing (at + 1)) (every-atom l at (at + 1)) (refused at)
+
+    pub every-token : (s : List ℕ) (at : ℕ) → P (next-core-token s at)
+    unfolding next-core-token
+    every-token s at = every-here (drop at s) at

@@ -1,2 +1,3 @@
 -- Definitions that only contracts of inner functions cite: nobody has to believe them.
 pub mod Stored
+pub mod Tests

@@ -20,6 +20,7 @@ ghost use Rattle.elaborate.specs.Loadable.{Loadable};
 ghost use Rattle.loader.specs.Parsed.{rows-read, declarations-read, Parses};
 ghost use Rattle.loader.specs.Leaving.{lengths-of};
 ghost use Rattle.loader.specs.inner.Stored.{Stores, Resolves, Counts};
+ghost use Rattle.loader.specs.inner.Tests.{Tests};
 
 fn refused(class: u8) -> Refusal
     ensures { λ r. ⌜ r ≡ nowhere class ⌝ }
@@ -39,27 +40,44 @@ fn malformed(at: usize) -> Refusal
     }
 }
 
-// "Order: 11; 6; not UTF-8; leading EF BB BF; then 1, 2, 3, 7, 8, 9 by reading order". What lies behind the rows and records is untouched.
+// What is tested of a source before it is read: nothing stands against reading it, or it is refused.
+pub enum Tested {
+    Readable,
+    Refused(Refusal),
+}
+
+// "Order: 11; 6; not UTF-8; leading EF BB BF", by the source and how many words the work area has.
+pub fn test_source(s: &[u8], area: usize) -> Tested
+    ensures { λ r. ⌜ Tests (now (s .entry)) area r ⌝ }
+{
+    if area < 16384 {
+        return Tested::Refused(refused(11));
+    }
+    if 65535 < s.len() {
+        return Tested::Refused(refused(6));
+    }
+    let valid = utf8::valid_up_to(s);
+    if valid != s.len() {
+        return Tested::Refused(malformed(valid));
+    }
+    if utf8::starts_with_mark(s) {
+        return Tested::Refused(malformed(0));
+    }
+    Tested::Readable
+}
+
+// ".. then 1, 2, 3, 7, 8, 9 by reading order". What lies behind the rows and records is untouched.
 fn parse(s: &[u8], surface: &mut [u32], declarations: &mut [u32], work: &mut [u32]) -> ModuleRead
     ensures { λ r. ⌜
         ReadsModule (parsing (now (s .entry)) (lengths-of (now (surface .entry)) [] (now (declarations .entry)) (now (work .entry))) start)
         (now (surface .entry)) (now (declarations .entry)) r (now (surface .exit)) (now (declarations .exit))
         ⌝ }
 {
-    if work.len() < 16384 {
-        return ModuleRead::Refused(refused(11));
+    let tested = test_source(s, work.len());
+    match tested {
+        Tested::Refused(refusal) => ModuleRead::Refused(refusal),
+        Tested::Readable => reader::read_module(s, surface, declarations, work),
     }
-    if 65535 < s.len() {
-        return ModuleRead::Refused(refused(6));
-    }
-    let valid = utf8::valid_up_to(s);
-    if valid != s.len() {
-        return ModuleRead::Refused(malformed(valid));
-    }
-    if utf8::starts_with_mark(s) {
-        return ModuleRead::Refused(malformed(0));
-    }
-    reader::read_module(s, surface, declarations, work)
 }
 
 // ".. 10; then declarations in order: 4, its type, its body": what was read is resolved into the core table.

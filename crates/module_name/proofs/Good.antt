@@ -19,7 +19,7 @@ use Rattle.terms.specs.Resolution.{first-refused}
 use Rattle.surface.specs.Grammar.{the-end, Head, Derives, no-declaration}
 use Rattle.surface.specs.Reader.{Position, start, Result, done}
 use Rattle.surface.specs.Reading.{Head as HeadRead, head}
-use Rattle.surface.specs.Tables.{Lengths}
+use Rattle.surface.specs.Tables.{Lengths, ample}
 use Rattle.surface.specs.SameCore.{Accepts}
 use Rattle.surface.specs.Loading.{loading, outcome, load}
 use Rattle.surface.specs.Statements.{Readable}
@@ -29,7 +29,6 @@ use Rattle.surface.proofs.SoundModule.{head-done, head-before}
 use Rattle.surface.proofs.CompleteModule.{head-reads, head-goes}
 use Rattle.surface.proofs.Acceptance.{loads-exactly}
 use Rattle.surface.proofs.Accepted.{accepts-exactly}
-use Rattle.module_name.specs.ModuleName.{ample}
 use Rattle.module_name.specs.Statements.{WouldBeAccepted}
 use Rattle.module_name.proofs.HeadLocal.{Closed, head-local, head-closed}
 
@@ -140,7 +139,7 @@ pub good-would : (s : List ℕ) (h : HeadRead) (n : ℕ) → Good s h n → Woul
 unfolding load
 good-would s h n g =
     let t = take n s in
-    let z = ample t in
+    let z = ample t 16384 in
     let a = good-accepted s h n g z (omega arith) in
     (z, subst (λ (x : Result (List Declaration)). Accepts (outcome t z x)) (sym (a .1)) (a .0 .rows, 0, refl))
 

@@ -12,7 +12,8 @@ use Rattle.surface.specs.Reading.{Head}
 use Rattle.surface.proofs.Steps.{done-inj}
 use Rattle.surface.proofs.CompleteModule.{head-reads, head-goes}
 use Rattle.module_name.specs.declared.ModuleName.the-variants.{Named, Refused}
-use Rattle.module_name.specs.ModuleName.{ample, module-name}
+use Rattle.surface.specs.Tables.{ample}
+use Rattle.module_name.specs.ModuleName.{module-name}
 use Rattle.module_name.specs.Statements.{NoBeginning, WholeRefused, Shortest, NameIn, NameOfShortest, RefusalOfWhole}
 use Rattle.module_name.proofs.Good.{Good, good-head, good-closed, good-unique, good-itself, good-derives, good-would, accepted-good}
 use Rattle.module_name.proofs.Search.{good-names, none-refused}
@@ -80,6 +81,6 @@ refusal-of-whole s r = (forth (good-or-none s), back)
     back : NoBeginning s × WholeRefused s r → module-name s ≡ Refused r
     back (f, g) =
         let c = none-heading s f in
-        let i = sym (heading-answers s (ample s) (c .0) (omega arith) (c .1)) ∙ g (ample s) (omega arith) in
+        let i = sym (heading-answers s (ample s 16384) (c .0) (omega arith) (c .1)) ∙ g (ample s 16384) (omega arith) in
         let j : c .0 ≡ r = cc in
         none-names s (c .0) f (c .1) ∙ ap Refused j

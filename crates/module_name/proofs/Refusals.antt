@@ -28,7 +28,8 @@ use Rattle.surface.proofs.Shaped.{version-tokens}
 use Rattle.surface.proofs.SoundModule.{edition-is, supported-done}
 use Rattle.surface.proofs.Acceptance.{whole-valid}
 use Rattle.module_name.specs.declared.ModuleName.the-variants.{Refused}
-use Rattle.module_name.specs.ModuleName.{ample, module-name}
+use Rattle.surface.specs.Tables.{ample}
+use Rattle.module_name.specs.ModuleName.{module-name}
 use Rattle.module_name.specs.Statements.{NoBeginning, head-refusal}
 use Rattle.module_name.proofs.Good.{Good, good-head, good-would, read-good, clean-good, accepted-good}
 use Rattle.module_name.proofs.Search.{none-refused}
@@ -95,7 +96,7 @@ none-heading s f = go (heading s start) refl
 pub none-names : (s : List ℕ) (r : Refusal) → NoBeginning s → heading s start ≡ refused r → module-name s ≡ Refused r
 none-names s r f e =
     let w = none-refused s f in
-    let l = sym (w .loads) ∙ heading-loads s (ample s) r (omega arith) e in
+    let l = sym (w .loads) ∙ heading-loads s (ample s 16384) r (omega arith) e in
     let i : w .refusal ≡ r = cc in
     w .answers ∙ ap Refused i
 

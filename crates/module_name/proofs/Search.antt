@@ -16,7 +16,8 @@ use Rattle.surface.specs.SameCore.{Accepts}
 use Rattle.surface.specs.Loading.{loading, outcome, load}
 use Rattle.module_name.specs.declared.ModuleName.{ModuleName}
 use Rattle.module_name.specs.declared.ModuleName.the-variants.{Named, Refused}
-use Rattle.module_name.specs.ModuleName.{ample, name-in, answered, or-else, shortest, module-name}
+use Rattle.surface.specs.Tables.{ample}
+use Rattle.module_name.specs.ModuleName.{name-in, answered, or-else, shortest, module-name}
 use Rattle.module_name.specs.Statements.{WouldBeAccepted, NoBeginning}
 use Rattle.module_name.proofs.Good.{Good, good-itself, good-head, good-closed, good-accepted, good-unique, accepted-good}
 
@@ -26,15 +27,15 @@ named h = Named (h .name .start) (h .name .end - h .name .start)
 -- A source that no tables would do for is refused by itself.
 pub record RefusedAlone (t : List ℕ) : Type 0 where
   pub refusal : Refusal
-  pub loads : loading t (ample t) start ≡ refused refusal
+  pub loads : loading t (ample t 16384) start ≡ refused refusal
   pub answers : answered (name-in t start) ≡ Refused refusal
 
 pub refused-alone : (t : List ℕ) → (WouldBeAccepted t → ⊥) → RefusedAlone t
 unfolding name-in load
-refused-alone t n = go (loading t (ample t) start) refl
+refused-alone t n = go (loading t (ample t 16384) start) refl
   where
-    go : (o : Result (List Declaration)) → loading t (ample t) start ≡ o → RefusedAlone t
-    go (done ds q) e = absurd (n (ample t, subst (λ (x : Result (List Declaration)). Accepts (outcome t (ample t) x)) (sym e) (q .rows, length ds, refl)))
+    go : (o : Result (List Declaration)) → loading t (ample t 16384) start ≡ o → RefusedAlone t
+    go (done ds q) e = absurd (n (ample t 16384, subst (λ (x : Result (List Declaration)). Accepts (outcome t (ample t 16384) x)) (sym e) (q .rows, length ds, refl)))
     go (refused r) e = record { refusal = r; loads = e; answers = ap (λ (x : Result (List Declaration)). answered (after x (λ ds p. after (head t start) (λ h q. done (h .name) q)))) e }
 
 -- A good head is named by itself.
@@ -42,7 +43,7 @@ good-alone : (s : List ℕ) (h : Head) (n : ℕ) → Good s h n → answered (na
 unfolding name-in
 good-alone s h n g =
     let t = take n s in
-    let a = good-accepted s h n g (ample t) (omega arith) in
+    let a = good-accepted s h n g (ample t 16384) (omega arith) in
     ap (λ (x : Result (List Declaration)). answered (after x (λ ds p. after (head t start) (λ h q. done (h .name) q)))) (a .1)
     ∙ ap (λ (x : Result Head). answered (after x (λ h q. done (h .name) q))) (good-head t h n (good-itself s h n g))
 
@@ -79,7 +80,7 @@ good-names s h n g = finds s (length s) 0 n h shorter (good-alone s h n g) (omeg
 -- Where no beginning is accepted, the whole source is refused.
 pub record AnswersRefused (s : List ℕ) : Type 0 where
   pub refusal : Refusal
-  pub loads : loading s (ample s) start ≡ refused refusal
+  pub loads : loading s (ample s 16384) start ≡ refused refusal
   pub answers : module-name s ≡ Refused refusal
 
 pub none-refused : (s : List ℕ) → NoBeginning s → AnswersRefused s

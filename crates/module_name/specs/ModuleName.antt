@@ -1,24 +1,21 @@
 -- Document 02, Req 07, "Module name from the head of the file": the name in the shortest beginning that loading accepts.
 use mathlib.Core.List.{List, [], _∷_}
-use Prim.Native.Nat.{ℕ, zero, suc, _*_, _-_}
+use Prim.Native.Nat.{ℕ, zero, suc, _-_}
 use lib.ListN.{length, take}
 use Rattle.token.specs.declared.Token.{Token}
 use Rattle.surface.specs.Reader.{start, Result, done, refused, Reader, _>>=_, _>>_, pure, move-to}
 use Rattle.surface.specs.Reading.{head}
-use Rattle.surface.specs.Tables.{Lengths}
+use Rattle.surface.specs.Tables.{ample}
 use Rattle.surface.specs.Reports.{Report, accepted, report-refusal}
 use Rattle.surface.specs.Loading.{loading}
 use Rattle.module_name.specs.declared.ModuleName.{ModuleName}
 use Rattle.module_name.specs.declared.ModuleName.the-variants.{Named, Refused}
 
--- "given enough storage": a row and a declaration for each byte. `AmpleIsEnough` shows that no other tables would do more.
-abbrev pub ample : List ℕ → Lengths
-ample s = record { surface = length s * 8; core = length s * 8; declarations = length s * 5; work = 16384 }
-
--- The name in a source that "would be accepted by itself": it is loaded, and then its head is read for the name.
+-- The name in a source that "would be accepted by itself, given enough storage": it is loaded, and then its head is read for the name.
+-- `AmpleIsEnough` shows that no other tables would do more.
 unfoldable pub name-in : List ℕ → Reader Token
 name-in s = do
-  ds ← loading s (ample s)
+  ds ← loading s (ample s 16384)
   move-to start
   h ← head s
   pure (h .name)

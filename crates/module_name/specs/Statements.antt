@@ -15,12 +15,12 @@ use Rattle.surface.specs.Grammar.{Derives, Closes}
 use Rattle.terms.specs.Label.{Declaration}
 use Rattle.surface.specs.Reader.{Position, start, done}
 use Rattle.surface.specs.Reading.{Head, head}
-use Rattle.surface.specs.Tables.{Lengths}
+use Rattle.surface.specs.Tables.{Lengths, ample}
 use Rattle.surface.specs.SameCore.{Accepts}
 use Rattle.surface.specs.Loading.{load}
 use Rattle.module_name.specs.declared.ModuleName.{ModuleName}
 use Rattle.module_name.specs.declared.ModuleName.the-variants.{Named, Refused}
-use Rattle.module_name.specs.ModuleName.{ample, module-name, report-module-name}
+use Rattle.module_name.specs.ModuleName.{module-name, report-module-name}
 
 -- "would be accepted by itself, given enough storage": there are table lengths with which loading accepts it.
 abbrev pub WouldBeAccepted : List ℕ → Type 0
@@ -99,4 +99,4 @@ NameTells = (a b : ModuleName) → report-module-name a ≡ report-module-name b
 
 -- What loading accepts with some tables it accepts with those of `ample`.
 abbrev pub AmpleIsEnough : Type 0
-AmpleIsEnough = (s : List ℕ) → WouldBeAccepted s → Accepts (load s (ample s))
+AmpleIsEnough = (s : List ℕ) → WouldBeAccepted s → Accepts (load s (ample s 16384))

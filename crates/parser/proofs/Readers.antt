@@ -28,8 +28,8 @@ pub record Sound (s : List ℕ) (m : Setting) : Type 0 where
   pub arities : Arities (m .begin)
 
 -- The readers of a format's terms.
-pub setting-sound : (f : Format) (s : List ℕ) (limit : ℕ) → Sound s (setting (edition f) s limit)
-setting-sound f s limit = record {
+pub setting-sound : (f : Format) (s : List ℕ) (limit frames : ℕ) → Sound s (setting (edition f) s limit frames)
+setting-sound f s limit frames = record {
   begins = λ p q b e. beginning-got f s p b q e .ahead;
   closes = λ p q c e. behind (source f s) p c q (closing-got (source f s) p c q e);
   arities = λ p q l n e. let a = beginning-got f s p (frame l n) q e .labelled in (a .of-kind, a .low);

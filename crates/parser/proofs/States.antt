@@ -2,7 +2,7 @@
 use mathlib.Core.Path.{_≡_, refl, sym, _∙_, ap, subst}
 use mathlib.Core.List.{List, [], _∷_, _++_}
 use mathlib.Core.Bool.{Bool, true, false}
-use Prim.Native.Nat.{ℕ, suc, _+_, _-_, _*_, _≤_, _<_}
+use Prim.Native.Nat.{ℕ, suc, _+_, _-_, _*_, _≤_, _<_, max}
 use native.Mathlib.Omega.{arith}
 use native.Mathlib.Numerals.{add-one}
 use lib.Dec.{ltb}
@@ -24,15 +24,15 @@ use Rattle.parser.specs.declared.State.{State}
 use Rattle.parser.specs.declared.TermStep.{TermStep}
 use Rattle.parser.proofs.Resume.{Arities, resume-refused, store-yes, store-no, term-refused, term-leaf, term-deep, term-frame, after-more, after-last}
 
-module _ (limit : ℕ) (table : List ℕ) (n at d : ℕ) (row : List ℕ) where
+module _ (limit : ℕ) (table : List ℕ) (n at d h : ℕ) (row : List ℕ) where
   pub pushed-yes : n < limit
-      → (TermStep.Go (record { at = at; rows = n + 1; depth = d; value = n; have = true }) ≡ pushed-term limit n at d) × (stored-at 8 table n row ≡ pushed-row limit table n row)
+      → (TermStep.Go (record { at = at; rows = n + 1; depth = d; deepest = h; value = n; have = true }) ≡ pushed-term limit n at d h) × (stored-at 8 table n row ≡ pushed-row limit table n row)
   unfolding pushed-term pushed-row
-  pushed-yes h = let e = lt-ltb n limit h in (rw (e, pushed-term), rw (e, pushed-row))
+  pushed-yes k = let e = lt-ltb n limit k in (rw (e, pushed-term), rw (e, pushed-row))
 
-  pub pushed-no : limit ≤ n → (TermStep.Refused (nowhere 8) ≡ pushed-term limit n at d) × (table ≡ pushed-row limit table n row)
+  pub pushed-no : limit ≤ n → (TermStep.Refused (nowhere 8) ≡ pushed-term limit n at d h) × (table ≡ pushed-row limit table n row)
   unfolding pushed-term pushed-row
-  pushed-no h = let e = le-ltb n limit h in (rw (e, pushed-term), rw (e, pushed-row))
+  pushed-no k = let e = le-ltb n limit k in (rw (e, pushed-term), rw (e, pushed-row))
 
 -- Where frames are open, the last waits for an argument, and so do the others.
 pub last-waits : (work : List ℕ) (depth d : ℕ) → depth ≡ suc d → Waiting (open-frames work depth)
@@ -72,7 +72,7 @@ module _ (s : List ℕ) (m : Setting) (table work : List ℕ) (st : State) where
     next-table = stored-at 8 table (st .rows) row
 
     abbrev next-state : State
-    next-state = record { at = e; rows = st .rows + 1; depth = d; value = st .rows; have = true }
+    next-state = record { at = e; rows = st .rows + 1; depth = d; deepest = st .deepest; value = st .rows; have = true }
 
     full : limit ≤ st .rows → outcome m table work st ≡ refused (nowhere 8)
     full h =
@@ -88,21 +88,21 @@ module _ (s : List ℕ) (m : Setting) (table work : List ℕ) (st : State) where
         ∙ ap (resumed area d)
         (store-yes begin close limit holds l children (position-at e n) table h ∙ ap (λ (k : ℕ). done n (position-at e k) next-table) (sym (add-one n)))
 
-    module _ (i : TermInside (m .frames) s work st) (a : st .at < e) (b : e ≤ length s) (f : d ≤ m .frames) (k : m .frames * 11 ≤ length area)
+    module _ (i : TermInside (m .frames) s work st) (a : st .at < e) (b : e ≤ length s) (f : d ≤ st .deepest) (k : m .frames * 11 ≤ length area)
         (w : Waiting (open-frames area d)) where
       store-went : st .rows < limit → Went s m table work st next-state next-table area
       store-went h = record {
         same = stored h;
         less = omega arith;
-        inside = record { source = i .source; area = k; at = b; rows = omega arith; depth = f; waiting = w };
+        inside = record { source = i .source; area = k; at = b; rows = omega arith; depth = f; deepest = i .deepest; waiting = w };
       }
 
-      push-by : (t : Bool) → ltb (st .rows) limit ≡ t → TermStepped s m table work st (pushed-term limit (st .rows) e d) (pushed-row limit table (st .rows) row) area
+      push-by : (t : Bool) → ltb (st .rows) limit ≡ t → TermStepped s m table work st (pushed-term limit (st .rows) e d (st .deepest)) (pushed-row limit table (st .rows) row) area
       unfolding pushed-term pushed-row
-      push-by true q = rw (q, pushed-term, pushed-row) (store-went (ltb-true (st .rows) limit q))
+      push-by true q = rw (q, pushed-term, pushed-row) ((λ _. store-went (ltb-true (st .rows) limit q)), λ l. absurd (omega (arith, l, i .deepest)))
       push-by false q = rw (q, pushed-term, pushed-row) (full (ltb-false (st .rows) limit q))
 
-      pub push-stepped : (r : TermStep) (table₁ : List ℕ) → r ≡ pushed-term limit (st .rows) e d → table₁ ≡ pushed-row limit table (st .rows) row
+      pub push-stepped : (r : TermStep) (table₁ : List ℕ) → r ≡ pushed-term limit (st .rows) e d (st .deepest) → table₁ ≡ pushed-row limit table (st .rows) row
           → TermStepped s m table work st r table₁ area
       push-stepped r table₁ q t = rw (q, t) (push-by (ltb (st .rows) limit) refl)
 
@@ -112,14 +112,14 @@ module _ (s : List ℕ) (m : Setting) (table work : List ℕ) (st : State) where
       (term-rows begin close limit holds (m .frames - d) (position-at e (st .rows)) table)
 
   -- A step to a state that is to read a term for its last frame.
-  waits-went : (frs : List OpenFrame) (e d : ℕ) (area : List ℕ) → outcome m table work st ≡ waits frs e d → open-frames area d ≡ frs
-      → TermInside (m .frames) s work st → st .at ≤ e → e ≤ length s → d ≤ m .frames → length area ≡ length work → Waiting frs → 2 * (length s - e) < weight s st
-      → Went s m table work st (record { at = e; rows = st .rows; depth = d; value = 0; have = false }) table area
+  waits-went : (frs : List OpenFrame) (e d h : ℕ) (area : List ℕ) → outcome m table work st ≡ waits frs e d → open-frames area d ≡ frs
+      → TermInside (m .frames) s work st → st .at ≤ e → e ≤ length s → d ≤ h → h ≤ m .frames → length area ≡ length work → Waiting frs → 2 * (length s - e) < weight s st
+      → Went s m table work st (record { at = e; rows = st .rows; depth = d; deepest = h; value = 0; have = false }) table area
   unfolding outcome pending
-  waits-went frs e d area same q i a b f k w less = record {
+  waits-went frs e d h area same q i a b f g k w less = record {
     same = same ∙ ap (λ (x : List OpenFrame). waits x e d) (sym q);
     less = omega arith;
-    inside = record { source = i .source; area = omega arith; at = b; rows = omega arith; depth = f; waiting = subst Waiting (sym q) w };
+    inside = record { source = i .source; area = omega arith; at = b; rows = omega arith; depth = f; deepest = g; waiting = subst Waiting (sym q) w };
   }
 
   -- A term is to be read.
@@ -162,12 +162,12 @@ module _ (s : List ℕ) (m : Setting) (table work : List ℕ) (st : State) where
           ∙ ap (resume begin close limit holds (suc f) (open-frames work (st .depth)))
           (term-frame begin close limit holds arities f here (position-at e (st .rows)) table l n begun)
 
-      pub open-went : (i : TermInside (m .frames) s work st) (area : List ℕ) → st .at < e → e ≤ length s → length area ≡ length work
+      pub open-went : (i : TermInside (m .frames) s work st) (top : ℕ) (area : List ℕ) → top ≡ max (st .deepest) (st .depth + 1) → st .at < e → e ≤ length s → length area ≡ length work
           → open-frames area (st .depth + 1) ≡ record { label = l; children = [] } ∷ open-frames work (st .depth)
-          → Went s m table work st (record { at = e; rows = st .rows; depth = st .depth + 1; value = 0; have = false }) table area
-      open-went i area a b k q =
+          → Went s m table work st (record { at = e; rows = st .rows; depth = st .depth + 1; deepest = top; value = 0; have = false }) table area
+      open-went i top area u a b k q =
           let z = arities here (position-at e (st .rows)) l n begun in
-          waits-went (record { label = l; children = [] } ∷ open-frames work (st .depth)) e (st .depth + 1) area opened-same q i (omega arith) b (omega arith) k
+          waits-went (record { label = l; children = [] } ∷ open-frames work (st .depth)) e (st .depth + 1) top area opened-same q i (omega arith) b (omega arith) (omega (arith, i .deepest)) k
           (omega arith, i .waiting) (omega arith)
 
   -- A term is complete and the frame d, which is the last, takes it.
@@ -201,18 +201,18 @@ module _ (s : List ℕ) (m : Setting) (table work : List ℕ) (st : State) where
     others-wait = subst Waiting (sym the-others) (waited .1)
 
     pub more-went : length (frame-at area d .children) < arity-of (frame-at area d .label .kind) → length area ≡ length work
-        → Went s m table work st (record { at = st .at; rows = st .rows; depth = st .depth; value = 0; have = false }) table area
+        → Went s m table work st (record { at = st .at; rows = st .rows; depth = st .depth; deepest = st .deepest; value = 0; have = false }) table area
     unfolding resume
     more-went h k =
         let g : length (fr .children) < arity-of (fr .label .kind) = subst (λ (x : OpenFrame). length (x .children) < arity-of (x .label .kind)) the-frame h in
         let z : one-if (st .have) ≡ 1 = ap one-if have in
-        subst (λ (x : ℕ). Went s m table work st (record { at = st .at; rows = st .rows; depth = x; value = 0; have = false }) table area) (sym deep)
-        (waits-went (fr ∷ open-frames work d) (st .at) (suc d) area
+        subst (λ (x : ℕ). Went s m table work st (record { at = st .at; rows = st .rows; depth = x; deepest = st .deepest; value = 0; have = false }) table area) (sym deep)
+        (waits-went (fr ∷ open-frames work d) (st .at) (suc d) (st .deepest) area
         (taken
         ∙ ap (resume begin close limit holds (suc f) (open-frames work d))
         (after-more begin close limit holds (term-rows begin close limit holds f) (frame-at work d) (st .value) here table
         (omega (arith, length-append (frame-at work d .children) (st .value ∷ [])))))
-        pushed i (omega arith) (i .at) (omega arith) k (g, waited .1) (omega arith))
+        pushed i (omega arith) (i .at) (omega (arith, i .depth)) (i .deepest) k (g, waited .1) (omega arith))
 
     module _ (h : arity-of (frame-at area d .label .kind) ≤ length (frame-at area d .children)) where
       last : outcome m table work st

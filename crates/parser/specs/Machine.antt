@@ -7,12 +7,15 @@ use lib.Dec.{eqb, ltb, leb}
 use lib.ListN.{length}
 use Rattle.token.specs.declared.Token.{Token}
 use Rattle.terms.specs.Forms.{Edition, arity-of, holds-span-in}
-use Rattle.surface.specs.Reader.{Position, Reader, nowhere}
-use Rattle.surface.specs.Reading.{Beginning, beginning, closing}
+use Rattle.terms.specs.Label.{Label}
+use Rattle.terms.specs.Tree.{nil, Tree, tree, next, cells}
+use Rattle.surface.specs.Reader.{Position, Result, Reader, nowhere}
+use Rattle.surface.specs.Reading.{Beginning, beginning, closing, term}
+use Rattle.surface.specs.Sizes.{frames-of}
 use Rattle.rows.specs.Places.{stored-at}
 use Rattle.frames.specs.Frames.{OpenFrame, open-frames}
 use Rattle.expects.specs.Expects.{position-at}
-use Rattle.parser.specs.TermRows.{RowResult, done, refused, term-rows, resume}
+use Rattle.parser.specs.TermRows.{RowResult, done, refused, term-rows, resume, stored-rows}
 use Rattle.parser.specs.declared.State.{State}
 use Rattle.parser.specs.declared.TermStep.{TermStep}
 use Rattle.parser.specs.declared.TermRead.{TermRead}
@@ -26,9 +29,8 @@ pub record Setting : Type 0 where
   pub holds : ℕ → Bool
   pub frames : ℕ
 
--- "7 more than 512 frames open in one term"
-abbrev pub setting : Edition → List ℕ → ℕ → Setting
-setting E s limit = record { begin = beginning E s; close = closing (E .tokens s); limit = limit; holds = holds-span-in (E .forms); frames = 512 }
+abbrev pub setting : Edition → List ℕ → ℕ → ℕ → Setting
+setting E s limit frames = record { begin = beginning E s; close = closing (E .tokens s); limit = limit; holds = holds-span-in (E .forms); frames = frames }
 
 -- What stands in front of the open frames: a complete term, or one that is to be read, where so many frames may still be opened.
 unfoldable pub pending : Setting → ℕ → Bool → ℕ → Position → List ℕ → RowResult
@@ -43,9 +45,9 @@ outcome m table work st =
 
 -- "8 surface row table (..) full when a completed term must be stored": the step that stores a completed term as the next row,
 -- with so many frames open behind it.
-unfoldable pub pushed-term : ℕ → ℕ → ℕ → ℕ → TermStep
-pushed-term limit n at d =
-    cond (ltb n limit) (TermStep.Go (record { at = at; rows = n + 1; depth = d; value = n; have = true })) (TermStep.Refused (nowhere 8))
+unfoldable pub pushed-term : ℕ → ℕ → ℕ → ℕ → ℕ → TermStep
+pushed-term limit n at d deepest =
+    cond (ltb n limit) (TermStep.Go (record { at = at; rows = n + 1; depth = d; deepest = deepest; value = n; have = true })) (TermStep.Refused (nowhere 8))
 
 -- The table then.
 unfoldable pub pushed-row : ℕ → List ℕ → ℕ → List ℕ → List ℕ
@@ -74,7 +76,8 @@ pub record TermInside (frames : ℕ) (s work : List ℕ) (st : State) : Type 0 w
   pub area : frames * 11 ≤ length work
   pub at : st .at ≤ length s
   pub rows : st .rows ≤ st .at
-  pub depth : st .depth ≤ frames
+  pub depth : st .depth ≤ st .deepest
+  pub deepest : st .deepest ≤ frames
   pub waiting : Waiting (open-frames work (st .depth))
 
 -- A step from one state to the next: reading comes to the same.
@@ -83,14 +86,26 @@ pub record Went (s : List ℕ) (m : Setting) (table work : List ℕ) (st st₁ :
   pub less : weight s st₁ < weight s st
   pub inside : TermInside (m .frames) s work₁ st₁
 
+-- Where so many frames may be open: a step that opens one more than that comes to 7.
 abbrev pub TermStepped : List ℕ → Setting → List ℕ → List ℕ → State → TermStep → List ℕ → List ℕ → Type 0
-TermStepped s m table work st (TermStep.Go st₁) table₁ work₁ = Went s m table work st st₁ table₁ work₁
+TermStepped s m table work st (TermStep.Go st₁) table₁ work₁ =
+    (st₁ .deepest ≤ m .frames → Went s m table work st st₁ table₁ work₁) × (m .frames < st₁ .deepest → outcome m table work st ≡ refused (nowhere 7))
 TermStepped s m table work st (TermStep.Refused r) table₁ work₁ = outcome m table work st ≡ refused r
 
--- The answer, and the table.
-abbrev pub Reads : RowResult → TermRead → List ℕ → Type 0
-Reads (done row p w) r table₁ = (r ≡ TermRead.Done row (p .rows) (p .offset)) × (table₁ ≡ w)
-Reads (refused x) r table₁ = r ≡ TermRead.Refused x
+-- "7 more than 512 frames open in one term": a step never opens more, and the most that were open stays.
+abbrev pub Bounded : State → TermStep → Type 0
+Bounded st (TermStep.Go st₁) = (st .deepest ≤ st₁ .deepest) × (st₁ .deepest ≤ 512)
+Bounded st (TermStep.Refused r) = Unit {0}
+
+-- A step, for each number of frames that the reading so far has kept to: how many were open at most is the least of these.
+abbrev pub Steps : List ℕ → (ℕ → Setting) → List ℕ → List ℕ → State → TermStep → List ℕ → List ℕ → Type 0
+Steps s m table work st r table₁ work₁ = Bounded st r × ((l : ℕ) → st .deepest ≤ l → l ≤ 512 → TermStepped s (m l) table work st r table₁ work₁)
+
+-- The answer for a tree behind n rows, and the table.
+abbrev pub Reads : (ℕ → Bool) → ℕ → List ℕ → Result (Tree Label) → TermRead → List ℕ → Type 0
+Reads holds n table (Result.done t q) r table₁ =
+    (r ≡ TermRead.Done (next n (t .args)) (q .rows) (q .offset) (frames-of (tree t nil))) × (table₁ ≡ stored-rows holds n table (cells n (tree t nil)))
+Reads holds n table (Result.refused x) r table₁ = r ≡ TermRead.Refused x
 
 -- A whole type or body from an offset on, behind n rows.
 abbrev pub whole-term : Setting → List ℕ → ℕ → ℕ → RowResult
@@ -98,7 +113,7 @@ whole-term m table at n = term-rows (m .begin) (m .close) (m .limit) (m .holds) 
 
 -- The state in which its reading begins.
 abbrev pub first-state : ℕ → ℕ → State
-first-state at n = record { at = at; rows = n; depth = 0; value = 0; have = false }
+first-state at n = record { at = at; rows = n; depth = 0; deepest = 0; value = 0; have = false }
 
 -- Whether it is inside, by the lengths of the source and of the work area.
 abbrev pub ready : ℕ → ℕ → ℕ → ℕ → Bool
@@ -106,4 +121,5 @@ ready source area at n = leb source 4294967295 && (leb 5632 area && (leb at sour
 
 -- r is the answer for it, where it is inside.
 abbrev pub ReadsTerm : Edition → ℕ → List ℕ → List ℕ → List ℕ → ℕ → ℕ → TermRead → List ℕ → Type 0
-ReadsTerm E limit s table work at n r table₁ = TermInside 512 s work (first-state at n) → Reads (whole-term (setting E s limit) table at n) r table₁
+ReadsTerm E limit s table work at n r table₁ =
+    TermInside 512 s work (first-state at n) → Reads (holds-span-in (E .forms)) n table (term (beginning E s) (closing (E .tokens s)) limit 512 (position-at at n)) r table₁

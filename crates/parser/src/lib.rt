@@ -7,13 +7,13 @@ use token::Lexed;
 use token::Refusal;
 ghost use mathlib.Core.Path.{_≡_};
 ghost use mathlib.Core.Bool.{true, false};
-ghost use Prim.Native.Nat.{_<_, _≤_};
+ghost use Prim.Native.Nat.{_<_, _≤_, max};
 ghost use lib.ListN.{take};
 ghost use Rattle.token.specs.Classes.{ClassTable};
 ghost use Rattle.terms.specs.Forms.{holds-span-in};
 ghost use Rattle.terms.specs.Rows.{row-holding};
 ghost use Rattle.expects.specs.Formats.{edition};
-ghost use Rattle.parser.specs.Machine.{setting, pushed-term, pushed-row, ended, TermInside, TermStepped, ready, ReadsTerm};
+ghost use Rattle.parser.specs.Machine.{setting, pushed-term, pushed-row, ended, TermInside, Steps, ready, ReadsTerm};
 
 // "more than 512 frames open in one term" are refused.
 const FRAMES: usize = 512;
@@ -24,12 +24,13 @@ const AREA: usize = 5632;
 // What the words of a row can count.
 const LONGEST: usize = 4294967295;
 
-// Between two steps of reading a term: where reading goes on, how many rows are stored, how many frames are open,
-// and whether a term has just been completed, with its row.
+// Between two steps of reading a term: where reading goes on, how many rows are stored, how many frames are open and how many
+// were at most, and whether a term has just been completed, with its row.
 pub struct State {
     pub at: usize,
     pub rows: usize,
     pub depth: usize,
+    pub deepest: usize,
     pub value: u32,
     pub have: bool,
 }
@@ -39,10 +40,25 @@ pub enum TermStep {
     Refused(Refusal),
 }
 
-// A term that was read: its row, how many rows are stored, and where reading goes on; or the refusal.
+// A term that was read: its row, how many rows are stored, where reading goes on, and how many frames were open at most; or the refusal.
 pub enum TermRead {
-    Done { row: u32, rows: usize, next: usize },
+    Done {
+        row: u32,
+        rows: usize,
+        next: usize,
+        frames: usize,
+    },
     Refused(Refusal),
+}
+
+// The greater of two numbers of frames.
+pub fn deeper(a: usize, b: usize) -> usize
+    ensures { λ r. ⌜ r ≡ max a b ⌝ }
+{
+    if a < b {
+        return b;
+    }
+    a
 }
 
 // Whether a term of each kind has the start and length of an atom in its row.
@@ -70,10 +86,11 @@ fn push_term(
     row: [u32; 8],
     at: usize,
     depth: usize,
+    deepest: usize,
     limit: usize,
 ) -> TermStep
     requires { ⌜ rows ≤ 4294967295 ⌝ }
-    ensures { λ r. ⌜ r ≡ pushed-term limit rows at depth ⌝ }
+    ensures { λ r. ⌜ r ≡ pushed-term limit rows at depth deepest ⌝ }
     ensures { λ r. ⌜ now (table .exit) ≡ pushed-row limit (now (table .entry)) rows row ⌝ }
 {
     if rows < limit {
@@ -82,6 +99,7 @@ fn push_term(
             at: at,
             rows: rows + 1,
             depth: depth,
+            deepest: deepest,
             value: rows as u32,
             have: true,
         });
@@ -102,26 +120,30 @@ fn term_step(
     requires { ⌜ TermInside 512 (now s) (now work) st ⌝ }
     requires { ⌜ st .have ≡ false ⌝ }
     requires { ⌜ ClassTable (now classes) ⌝ }
-    ensures { λ r. ⌜ TermStepped (now (s .entry)) (setting (edition format) (now (s .entry)) limit) (now (table .entry)) (now (work .entry)) st r (now (table .exit)) (now (work .exit)) ⌝ }
+    ensures { λ r. ⌜ Steps (now (s .entry)) (setting (edition format) (now (s .entry)) limit) (now (table .entry)) (now (work .entry)) st r (now (table .exit)) (now (work .exit)) ⌝ }
 {
     let at = st.at;
     let rows = st.rows;
     let depth = st.depth;
+    let deepest = st.deepest;
     let begun = expects::begin_term(s, classes, at, format);
     match begun {
         Begun::Refused(r) => TermStep::Refused(r),
         Begun::Leaf(label, next) => {
             let none = [0u32; 6];
             let row = term_row(label, none, 0, format);
-            push_term(table, rows, row, next, depth, limit)
+            push_term(table, rows, row, next, depth, deepest, limit)
         }
         Begun::Frame(label, next) => {
             if depth < FRAMES {
+                let open = depth + 1;
+                let most = deeper(deepest, open);
                 frames::open_frame(work, depth, label);
                 return TermStep::Go(State {
                     at: next,
                     rows: rows,
-                    depth: depth + 1,
+                    depth: open,
+                    deepest: most,
                     value: 0,
                     have: false,
                 });
@@ -145,7 +167,7 @@ fn value_step(
     requires { ⌜ st .have ≡ true ⌝ }
     requires { ⌜ 0 < st .depth ⌝ }
     requires { ⌜ ClassTable (now classes) ⌝ }
-    ensures { λ r. ⌜ TermStepped (now (s .entry)) (setting (edition format) (now (s .entry)) limit) (now (table .entry)) (now (work .entry)) st r (now (table .exit)) (now (work .exit)) ⌝ }
+    ensures { λ r. ⌜ Steps (now (s .entry)) (setting (edition format) (now (s .entry)) limit) (now (table .entry)) (now (work .entry)) st r (now (table .exit)) (now (work .exit)) ⌝ }
 {
     let at = st.at;
     let rows = st.rows;
@@ -159,6 +181,7 @@ fn value_step(
             at: at,
             rows: rows,
             depth: depth,
+            deepest: st.deepest,
             value: 0,
             have: false,
         });
@@ -171,7 +194,7 @@ fn value_step(
             let label = f.label;
             let args = f.args;
             let row = term_row(label, args, f.len, format);
-            push_term(table, rows, row, t.end, d, limit)
+            push_term(table, rows, row, t.end, d, st.deepest, limit)
         }
     }
 }
@@ -189,7 +212,7 @@ fn next_step(
     requires { ⌜ TermInside 512 (now s) (now work) st ⌝ }
     requires { ⌜ ended st ≡ false ⌝ }
     requires { ⌜ ClassTable (now classes) ⌝ }
-    ensures { λ r. ⌜ TermStepped (now (s .entry)) (setting (edition format) (now (s .entry)) limit) (now (table .entry)) (now (work .entry)) st r (now (table .exit)) (now (work .exit)) ⌝ }
+    ensures { λ r. ⌜ Steps (now (s .entry)) (setting (edition format) (now (s .entry)) limit) (now (table .entry)) (now (work .entry)) st r (now (table .exit)) (now (work .exit)) ⌝ }
 {
     let have = st.have;
     if have {
@@ -247,6 +270,7 @@ pub fn read_term(
         at: at,
         rows: rows,
         depth: 0,
+        deepest: 0,
         value: 0,
         have: false,
     };
@@ -256,6 +280,7 @@ pub fn read_term(
                 row: st.value,
                 rows: st.rows,
                 next: st.at,
+                frames: st.deepest,
             };
         }
         let r = next_step(s, classes, table, work, st, limit, format);

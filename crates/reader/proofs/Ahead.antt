@@ -72,7 +72,7 @@ module _ (format : Format) (s : List ℕ) (limit : ℕ) where
   term-behind p =
       gives (TreeBehind p) (whole-term format s limit p)
       (λ t q e.
-      let g = term-grown (beginning (edition format) s) (closing (edition format .tokens s)) limit s (setting-sound format s limit .begins) (setting-sound format s limit .closes) 512 p q t e in
+      let g = term-grown (beginning (edition format) s) (closing (edition format .tokens s)) limit s (setting-sound format s limit 512 .begins) (setting-sound format s limit 512 .closes) 512 p q t e in
       let r = term-done (edition format) s limit 512 p q t e in
       record { past = omega arith; high = λ h. g .high; slow = g .slow; rows = r .rows; room = λ h. r .room })
 

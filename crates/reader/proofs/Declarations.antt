@@ -2,7 +2,7 @@
 use mathlib.Core.Path.{_≡_, refl, sym, _∙_, ap, ap₂, subst}
 use mathlib.Core.List.{List, [], _∷_, _++_}
 use mathlib.Core.Option.{Option, none, some}
-use Prim.Native.Nat.{ℕ, suc, _+_, _-_, _*_, _/_, _≤_, _<_}
+use Prim.Native.Nat.{ℕ, suc, _+_, _-_, _*_, _/_, _≤_, _<_, max}
 use native.Mathlib.Omega.{arith}
 use lib.ListN.{length}
 use Rattle.token.specs.declared.Token.{Token}
@@ -14,6 +14,7 @@ use Rattle.terms.specs.Tree.{nil, Tree, tree, next, roots}
 use Rattle.terms.specs.Rows.{pad, read-record}
 use Rattle.surface.specs.Reader.{Position, Result, done, refused}
 use Rattle.surface.specs.Reading.{closing, declared}
+use Rattle.surface.specs.Sizes.{frames-of}
 use Rattle.tables.specs.Tables.{with-words}
 use Rattle.rows.specs.Places.{stored-at}
 use Rattle.rows.proofs.Storing.{stored-at-place}
@@ -32,12 +33,12 @@ use Rattle.reader.proofs.Words.{length-forest, forest-split}
 use Rattle.reader.proofs.Parts.{TypeRead, BodyRead}
 
 -- The end of a declaration, where x is read for its closing parenthesis.
-module _ (format : Format) (s : List ℕ) (at n k : ℕ) (list words : List ℕ) (x : Lexed) (h : Reads (closing (edition format .tokens s)) at x) where
-  pub end-refused : (r : Refusal) → x ≡ Refused r → Finishes (closing (edition format .tokens s) (position-at at n)) k list words (DeclarationRead.Refused r) list
+module _ (format : Format) (s : List ℕ) (at n k frames : ℕ) (list words : List ℕ) (x : Lexed) (h : Reads (closing (edition format .tokens s)) at x) where
+  pub end-refused : (r : Refusal) → x ≡ Refused r → Finishes (closing (edition format .tokens s) (position-at at n)) k frames list words (DeclarationRead.Refused r) list
   end-refused r e = rw (h n, e) (refl, refl)
 
   pub end-got : (c : Token) → x ≡ Got c → (list₁ : List ℕ) → list₁ ≡ stored-at 5 list k words
-      → Finishes (closing (edition format .tokens s) (position-at at n)) k list words (DeclarationRead.Done n (c .end)) list₁
+      → Finishes (closing (edition format .tokens s) (position-at at n)) k frames list words (DeclarationRead.Done n (c .end) frames) list₁
   end-got c e list₁ i = rw (h n, e) (refl, i)
 
 -- A declaration of kind 1 + j behind its word, by its parts.
@@ -81,9 +82,9 @@ body-word n (some b) = refl
 
 -- A declaration whose parts were read and whose end was asked for.
 module _ (format : Format) (limits : Limits) (s table list : List ℕ) (at n k : ℕ) (t : Token) (j : ℕ) (x : NameRead) (h : Names format s at x) (m : Token) (at₀ : ℕ) (e : x ≡ NameRead.Got m at₀)
-    (row n₁ at₁ : ℕ) (table₁ : List ℕ) (long : length table₁ ≡ length table) (a : TypeRead format (limits .rows) (whole-term format s (limits .rows) (position-at at₀ n)) n table row n₁ at₁ table₁)
-    (body n₂ at₂ : ℕ) (table₂ : List ℕ) (b : BodyRead format (limits .rows) (one-body format s (limits .rows) j (position-at at₁ n₁)) n₁ table₁ body n₂ at₂ table₂)
-    (stored : n ≤ limits .rows) (room : k < limits .declarations) where
+    (row n₁ at₁ h₁ : ℕ) (table₁ : List ℕ) (long : length table₁ ≡ length table) (a : TypeRead format (limits .rows) (whole-term format s (limits .rows) (position-at at₀ n)) n table row n₁ at₁ h₁ table₁)
+    (body n₂ at₂ h₂ : ℕ) (table₂ : List ℕ) (b : BodyRead format (limits .rows) (one-body format s (limits .rows) j (position-at at₁ n₁)) n₁ table₁ body n₂ at₂ h₂ table₂)
+    (stored : n ≤ limits .rows) (room : k < limits .declarations) (top : ℕ) (most : top ≡ max h₁ h₂) where
   abbrev limit : ℕ
   limit = limits .rows
 
@@ -114,9 +115,12 @@ module _ (format : Format) (limits : Limits) (s table list : List ℕ) (at n k :
   record-is = ap₂ (λ (i : ℕ) (l : List ℕ). suc j ∷ m .start ∷ (m .end - m .start) ∷ i ∷ l) (a .row-is)
       (ap (λ (i : ℕ). i ∷ []) (b .row-is) ∙ body-word n₁ (b .body) ∙ ap (λ (i : ℕ). pad 1 (roots i (body-trees (b .body)))) first-row)
 
-  pub ended : (y : Result Token) → closing (edition format .tokens s) (position-at at₂ n₂) ≡ y → (r : DeclarationRead) (list₁ : List ℕ) → Finishes y k list words r list₁
+  frames-are : top ≡ frames-of (trees made)
+  frames-are = omega (arith, most, a .frames-are, b .frames-are)
+
+  pub ended : (y : Result Token) → closing (edition format .tokens s) (position-at at₂ n₂) ≡ y → (r : DeclarationRead) (list₁ : List ℕ) → Finishes y k top list words r list₁
       → Declares format limits (answer format s limit t j at n) n k table list r table₂ list₁
   ended (refused z) q r list₁ f = rw (close-refused format s limit t j at n x h m at₀ e (a .type) at₁ n₁ (a .read) (b .body) at₂ n₂ (b .read) z q) (f .0)
   ended (done c p) q r list₁ f =
       rw (declared-done format s limit t j at n x h m at₀ e (a .type) at₁ n₁ (a .read) (b .body) at₂ n₂ (b .read) c p q)
-      (f .0, rows-are, λ holds. f .1 ∙ stored-at-place 5 list k words refl (omega arith) (omega arith) ∙ ap (with-words list (k * 5)) record-is)
+      (f .0 ∙ ap (DeclarationRead.Done (p .rows) (p .offset)) frames-are, rows-are, λ holds. f .1 ∙ stored-at-place 5 list k words refl (omega arith) (omega arith) ∙ ap (with-words list (k * 5)) record-is)

@@ -28,10 +28,11 @@ use Rattle.expects.specs.declared.Format.{Format}
 use Rattle.expects.specs.Formats.{edition, declared-name, ends}
 use Rattle.reader.specs.declared.Limits.{Limits}
 use Rattle.reader.specs.declared.DeclarationsRead.{DeclarationsRead}
+use Rattle.reader.specs.declared.ModuleMeasured.{ModuleMeasured}
 use Rattle.reader.specs.declared.ModuleRead.{ModuleRead}
 use Rattle.reader.specs.ModuleWords.{whole-term}
 use Rattle.reader.specs.Parts.{ReadsDeclarations}
-use Rattle.reader.specs.Reads.{Holds, ModuleInside, ReadsWithin, ReadsModule}
+use Rattle.reader.specs.Reads.{Holds, ModuleInside, Measures, ReadsModule}
 use Rattle.reader.proofs.Answers.{inside-first, all-from, all-refused, all-read}
 
 -- A format whose tokens are those of a source has its names, its end and its rows.
@@ -60,7 +61,7 @@ module _ (limits : Limits) (s table list : List ℕ) (x : HeadRead) (h : Heads s
   abbrev answer : Result (List Declaration)
   answer = read-module s (limits .rows) (limits .declarations) 512 start
 
-  pub head-refused : (r : Refusal) → x ≡ HeadRead.Refused r → (table₁ list₁ : List ℕ) → ReadsWithin limits answer table list (ModuleRead.Refused r) table₁ list₁
+  pub head-refused : (r : Refusal) → x ≡ HeadRead.Refused r → (table₁ list₁ : List ℕ) → Measures limits answer table list (ModuleMeasured.Refused r) table₁ list₁
   unfolding read-module
   head-refused r e table₁ list₁ = rw (h 0, e) refl
 
@@ -82,20 +83,31 @@ module _ (limits : Limits) (s table list : List ℕ) (x : HeadRead) (h : Heads s
       first : ModuleInside (limits .rows) s work next 0
       first = inside-first (limits .rows) s work next short wide (head-got s x h format t next e 0 .ahead .high)
 
-      pub module-refused : (c : Refusal) → r ≡ DeclarationsRead.Refused c → ReadsWithin limits answer table list (ModuleRead.Refused c) table₁ list₁
+      pub module-refused : (c : Refusal) → r ≡ DeclarationsRead.Refused c → Measures limits answer table list (ModuleMeasured.Refused c) table₁ list₁
       module-refused c i = rw (behind-head ∙ all-refused format limits s table list work next first r table₁ list₁ g c i) refl
 
-      pub module-done : (n k at : ℕ) → r ≡ DeclarationsRead.Done n k at → ReadsWithin limits answer table list (ModuleRead.Done n k) table₁ list₁
-      module-done n k at i =
-          let a = all-read format limits s table list work next first r table₁ list₁ g n k at i in
+      pub module-done : (n k at top : ℕ) → r ≡ DeclarationsRead.Done n k at top → Measures limits answer table list (ModuleMeasured.Done n k top) table₁ list₁
+      module-done n k at top i =
+          let a = all-read format limits s table list work next first r table₁ list₁ g n k at top i in
           rw (behind-head ∙ a .read) (
-            ap (ModuleRead.Done n) (a .count),
+            ap₂ (ModuleMeasured.Done n) (a .count) (a .frames),
             λ holds. a .rows holds ∙ ap (λ (b : ℕ → Bool). with-words table 0 (joined (rows-by (row-holding b) 0 (a .declarations)))) (source .spans),
             a .records,
           )
 
--- Tables that hold as much as there is room for.
-pub whole : (limits : Limits) (x : Result (List Declaration)) (table list : List ℕ) (r : ModuleRead) (table₁ list₁ : List ℕ)
-    → Holds 8 (limits .rows) table → Holds 5 (limits .declarations) list → ReadsWithin limits x table list r table₁ list₁ → ReadsModule x table list r table₁ list₁
-whole limits (refused x) table list r table₁ list₁ a b h = h
-whole limits (done ds q) table list r table₁ list₁ a b h = (h .0, h .1 a, h .2 b)
+-- Tables that hold as much as there is room for, and the frames are not told.
+module _ (limits : Limits) (x : Result (List Declaration)) (table list : List ℕ) (r : ModuleMeasured) (table₁ list₁ : List ℕ)
+    (a : Holds 8 (limits .rows) table) (b : Holds 5 (limits .declarations) list) (h : Measures limits x table list r table₁ list₁) where
+  pub whole-refused : (c : Refusal) → r ≡ ModuleMeasured.Refused c → ReadsModule x table list (ModuleRead.Refused c) table₁ list₁
+  whole-refused c e = by x h
+    where
+      by : (y : Result (List Declaration)) → Measures limits y table list r table₁ list₁ → ReadsModule y table list (ModuleRead.Refused c) table₁ list₁
+      by (refused z) g = ap {B = ModuleRead} ModuleRead.Refused (cc)
+      by (done ds q) g = absurd (let z : _≡_ {A = ℕ} 0 1 = cc (g .0) in omega arith)
+
+  pub whole-done : (n k top : ℕ) → r ≡ ModuleMeasured.Done n k top → ReadsModule x table list (ModuleRead.Done n k) table₁ list₁
+  whole-done n k top e = by x h
+    where
+      by : (y : Result (List Declaration)) → Measures limits y table list r table₁ list₁ → ReadsModule y table list (ModuleRead.Done n k) table₁ list₁
+      by (refused z) g = absurd (let z : _≡_ {A = ℕ} 0 1 = cc in omega arith)
+      by (done ds q) g = (ap₂ {C = ModuleRead} ModuleRead.Done (cc (g .0)) (cc (g .0)), g .1 a, g .2 b)

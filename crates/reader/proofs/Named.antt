@@ -1,7 +1,7 @@
 -- A declaration behind its word, from what its reader's calls give.
 use mathlib.Core.Path.{_≡_, refl, _∙_, ap, subst}
 use mathlib.Core.List.{List, [], _∷_}
-use Prim.Native.Nat.{ℕ, suc, _-_, _≤_, _<_}
+use Prim.Native.Nat.{ℕ, suc, _-_, _≤_, _<_, max}
 use native.Mathlib.Omega.{arith}
 use lib.ListN.{length}
 use Rattle.token.specs.declared.Token.{Token}
@@ -43,9 +43,9 @@ module _ (format : Format) (limits : Limits) (s table list work : List ℕ) (at 
     pub type-stops : (r : Refusal) → y ≡ TermRead.Refused r → (list₁ : List ℕ) → Declares format limits (by.answer format s (limits .rows) t j at n) n k table list (DeclarationRead.Refused r) table₁ list₁
     type-stops r i list₁ = by.stops format limits _ r n k table list table₁ list₁ (by.type-refused format s _ t j at n x h m at₀ e r (type-refused format (limits .rows) n table y table₁ r i _ typed))
 
-    module _ (row n₁ at₁ : ℕ) (i : y ≡ TermRead.Done row n₁ at₁) where
-      type : TypeRead format (limits .rows) (whole-term format s (limits .rows) (position-at at₀ n)) n table row n₁ at₁ table₁
-      type = type-done format (limits .rows) n table y table₁ row n₁ at₁ i _ typed
+    module _ (row n₁ at₁ h₁ : ℕ) (i : y ≡ TermRead.Done row n₁ at₁ h₁) where
+      type : TypeRead format (limits .rows) (whole-term format s (limits .rows) (position-at at₀ n)) n table row n₁ at₁ h₁ table₁
+      type = type-done format (limits .rows) n table y table₁ row n₁ at₁ h₁ i _ typed
 
       body-at : ModuleInside (limits .rows) s work₁ at₁ n₁
       body-at =
@@ -71,13 +71,13 @@ module _ (format : Format) (limits : Limits) (s table list work : List ℕ) (at 
             (by.body-refused format s _ t j at n x h m at₀ e (type .type) at₁ n₁ (type .read) r (body-refused format (limits .rows) n₁ table₁ z table₂ r q _ bodied))
 
         -- The end.
-        pub ends : (body n₂ at₂ : ℕ) → z ≡ TermRead.Done body n₂ at₂ → (words : List ℕ)
+        pub ends : (body n₂ at₂ h₂ : ℕ) → z ≡ TermRead.Done body n₂ at₂ h₂ → (top : ℕ) → top ≡ max h₁ h₂ → (words : List ℕ)
             → (m .end < 4294967296 → words ≡ kind ∷ m .start ∷ (m .end - m .start) ∷ row ∷ body ∷ [])
-            → (r : DeclarationRead) (list₁ : List ℕ) → Finishes (closing (edition format .tokens s) (position-at at₂ n₂)) k list words r list₁
+            → (r : DeclarationRead) (list₁ : List ℕ) → Finishes (closing (edition format .tokens s) (position-at at₂ n₂)) k top list words r list₁
             → Declares format limits (by.answer format s (limits .rows) t j at n) n k table list r table₂ list₁
-        ends body n₂ at₂ q words w r list₁ c =
+        ends body n₂ at₂ h₂ q top f₂ words w r list₁ c =
             let d : words ≡ suc j ∷ m .start ∷ (m .end - m .start) ∷ row ∷ body ∷ [] =
             w (omega (arith, named .inside, named .ahead .high, inside .source)) ∙ ap (λ (i : ℕ). i ∷ m .start ∷ (m .end - m .start) ∷ row ∷ body ∷ []) is in
-            by.ended format limits s table list at n k t j x h m at₀ e row n₁ at₁ table₁ u type body n₂ at₂ table₂ (body-done format (limits .rows) n₁ table₁ z table₂ body n₂ at₂ q _ bodied)
-            (inside .stored) room (closing (edition format .tokens s) (position-at at₂ n₂)) refl r list₁
-            (subst (λ (l : List ℕ). Finishes (closing (edition format .tokens s) (position-at at₂ n₂)) k list l r list₁) d c)
+            by.ended format limits s table list at n k t j x h m at₀ e row n₁ at₁ h₁ table₁ u type body n₂ at₂ h₂ table₂ (body-done format (limits .rows) n₁ table₁ z table₂ body n₂ at₂ h₂ q _ bodied)
+            (inside .stored) room top f₂ (closing (edition format .tokens s) (position-at at₂ n₂)) refl r list₁
+            (subst (λ (l : List ℕ). Finishes (closing (edition format .tokens s) (position-at at₂ n₂)) k top list l r list₁) d c)

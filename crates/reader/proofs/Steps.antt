@@ -2,7 +2,7 @@
 use mathlib.Core.Path.{_≡_, refl, sym, _∙_, ap, ap₂, subst}
 use mathlib.Core.List.{List, [], _∷_, _++_, map}
 use mathlib.Core.Bool.{true, false}
-use Prim.Native.Nat.{ℕ, zero, suc, _+_, _-_, _*_, _/_, _≤_, _<_}
+use Prim.Native.Nat.{ℕ, zero, suc, _+_, _-_, _*_, _/_, _≤_, _<_, max}
 use native.Mathlib.Omega.{arith}
 use lib.ListN.{length}
 use Rattle.token.specs.declared.TokenKind.{TokenKind}
@@ -16,6 +16,7 @@ use Rattle.terms.specs.Rows.{joined, read-record, read-records}
 use Rattle.terms.proofs.Tables.{length-pad}
 use Rattle.surface.specs.Reader.{Position, Result, done, refused, Reader, after, _>>=_, _>>_, pure, refuse, require, nowhere, at-token}
 use Rattle.surface.specs.Reading.{lexed, token, ending, onwards, declarations}
+use Rattle.surface.specs.Sizes.{frames-of, deepest}
 use Rattle.tables.specs.Tables.{with-words}
 use Rattle.expects.specs.Expects.{position-at}
 use Rattle.parser.proofs.StoredRows.{with-no-words, with-more-words}
@@ -92,10 +93,10 @@ module _ (format : Format) (s : List ℕ) (limit : ℕ) where
 
 -- The end: nothing more is stored.
 pub ends-here : (format : Format) (limits : Limits) (s table list : List ℕ) (at n k : ℕ) (x : Lexed) → x ≡ edition format .tokens s at → (t : Token) → x ≡ Got t
-    → (t .kind ≡ TokenKind.LParen → ⊥) → ends format (t .kind) ≡ true → ReadsFrom format limits n k (left format limits s at n k) table list (DeclarationsRead.Done n k (t .end)) table list
-ends-here format limits s table list at n k x h t e other q =
+    → (t .kind ≡ TokenKind.LParen → ⊥) → ends format (t .kind) ≡ true → (top : ℕ) → ReadsFrom format limits n k top (left format limits s at n k) table list (DeclarationsRead.Done n k (t .end) top) table list
+ends-here format limits s table list at n k x h t e other q top =
     rw (next-end format s (limits .rows) at n (limits .declarations - k) x h t e other q)
-    (ap (λ (i : ℕ). DeclarationsRead.Done n i (t .end)) (let z : k ≡ k + 0 = omega arith in z), λ holds. sym (with-no-words table (n * 8)), λ holds. sym (with-no-words list (k * 5)))
+    (ap₂ (λ (i j : ℕ). DeclarationsRead.Done n i (t .end) j) (let z : k ≡ k + 0 = omega arith in z) (let z : top ≡ max top 0 = omega arith in z), λ holds. sym (with-no-words table (n * 8)), λ holds. sym (with-no-words list (k * 5)))
 
 -- A declaration d behind n rows and k declarations, and then others.
 module _ (format : Format) (limits : Limits) (n k n₁ : ℕ) (table list table₁ list₁ : List ℕ) (d : Declaration) (rows : n₁ ≡ next n (trees d)) (few : n₁ ≤ limits .rows) (room : k < limits .declarations)
@@ -114,11 +115,14 @@ module _ (format : Format) (limits : Limits) (n k n₁ : ℕ) (table list table�
       ∙ with-more-words list (k * 5) ((k + 1) * 5) (read-record n d) (joined (read-records n₁ ds)) (omega (arith, length-pad 2 (roots n (trees d)))) (omega arith)
       ∙ ap (λ (i : ℕ). with-words list (k * 5) (read-record n d ++ joined (read-records i ds))) rows
 
-  pub further : (y : Result (List Declaration)) (r : DeclarationsRead) (table₂ list₂ : List ℕ) → ReadsFrom format limits n₁ (k + 1) y table₁ list₁ r table₂ list₂
-      → ReadsFrom format limits n k (after y (λ l. pure (d ∷ l))) table list r table₂ list₂
-  further (refused x) r table₂ list₂ h = h
-  further (done ds q) r table₂ list₂ h = (
-    h .0 ∙ ap (λ (i : ℕ). DeclarationsRead.Done (q .rows) i (q .offset)) (let z : k + 1 + length ds ≡ k + suc (length ds) = omega arith in z),
+  pub further : (top : ℕ) (y : Result (List Declaration)) (r : DeclarationsRead) (table₂ list₂ : List ℕ)
+      → ReadsFrom format limits n₁ (k + 1) (max top (frames-of (trees d))) y table₁ list₁ r table₂ list₂
+      → ReadsFrom format limits n k top (after y (λ l. pure (d ∷ l))) table list r table₂ list₂
+  further top (refused x) r table₂ list₂ h = h
+  further top (done ds q) r table₂ list₂ h = (
+    h .0
+        ∙ ap₂ (λ (i j : ℕ). DeclarationsRead.Done (q .rows) i (q .offset) j) (let z : k + 1 + length ds ≡ k + suc (length ds) = omega arith in z)
+        (let z : max (max top (frames-of (trees d))) (deepest ds) ≡ max top (max (frames-of (trees d)) (deepest ds)) = omega arith in z),
     λ holds. h .1 (subst (λ (i : ℕ). limits .rows ≤ i / 8) (sym long) holds) ∙ more-rows holds ds,
     λ holds. h .2 (subst (λ (i : ℕ). limits .declarations ≤ i / 5) (sym far) holds) ∙ more-records holds ds,
   )
@@ -151,16 +155,17 @@ module _ (format : Format) (limits : Limits) (s table list : List ℕ) (at n k :
         by (done d q) j f = absurd (let z : _≡_ {A = ℕ} 0 1 = cc (f .0) in omega arith)
         by (refused c) j f = opens-to ∙ rw j (ap refused (cc))
 
-    pub went : (n₁ at₁ : ℕ) → y ≡ DeclarationRead.Done n₁ at₁ → Went format limits s table list at n k at₁ n₁ table₁ list₁ work₁
-    went n₁ at₁ i = by one refl (g behind-parenthesis room)
+    pub went : (n₁ at₁ own : ℕ) → y ≡ DeclarationRead.Done n₁ at₁ own → Went format limits s table list at n k at₁ n₁ own table₁ list₁ work₁
+    went n₁ at₁ own i = by one refl (g behind-parenthesis room)
       where
-        by : (z : Result Declaration) → one ≡ z → Declares format limits z n k table list y table₁ list₁ → Went format limits s table list at n k at₁ n₁ table₁ list₁ work₁
+        by : (z : Result Declaration) → one ≡ z → Declares format limits z n k table list y table₁ list₁ → Went format limits s table list at n k at₁ n₁ own table₁ list₁ work₁
         by (refused c) j f = absurd (let z : _≡_ {A = ℕ} 0 1 = cc in omega arith)
         by (done d q) j f =
             let is : one ≡ done d (position-at at₁ n₁) = j ∙ ap₂ (λ (a b : ℕ). done d (position-at a b)) (cc (f .0)) (cc (f .0)) in
             let o = declaration-onward format s (limits .rows) _ _ d is in
             let b = behind-parenthesis in
             let m : n₁ ≤ limits .rows = o .room (inside .stored) in
+            let owned : own ≡ frames-of (trees d) = cc (f .0) in
             record {
               inside = record {
                 source = inside .source;
@@ -169,8 +174,9 @@ module _ (format : Format) (limits : Limits) (s table list : List ℕ) (at n k :
                 few = omega (arith, o .slow, b .few);
                 stored = m;
               };
-              same = λ r table₂ list₂ a.
-                  subst (λ (l : Result (List Declaration)). ReadsFrom format limits n k l table list r table₂ list₂)
+              same = λ top r table₂ list₂ a.
+                  subst (λ (l : Result (List Declaration)). ReadsFrom format limits n k top l table list r table₂ list₂)
                   (sym (opens-to ∙ ap (λ (l : Result Declaration). after l (λ d. all-declarations format s (limits .rows) others >>= (λ l. pure (d ∷ l)))) is))
-                  (further format limits n k n₁ table list table₁ list₁ d (o .rows) m room u v (f .1) (f .2) (all-declarations format s (limits .rows) others (position-at at₁ n₁)) r table₂ list₂ a);
+                  (further format limits n k n₁ table list table₁ list₁ d (o .rows) m room u v (f .1) (f .2) top (all-declarations format s (limits .rows) others (position-at at₁ n₁)) r table₂ list₂
+                  (subst (λ (i : ℕ). ReadsFrom format limits n₁ (k + 1) (max top i) (all-declarations format s (limits .rows) others (position-at at₁ n₁)) table₁ list₁ r table₂ list₂) owned a));
             }

@@ -10,7 +10,7 @@ ghost use Rattle.surface.specs.Reading.{closing, read-module};
 ghost use Rattle.expects.specs.Formats.{edition};
 ghost use Rattle.expects.specs.Expects.{position-at};
 ghost use Rattle.reader.specs.Parts.{ReadsBody, Finishes, ReadsNamed, ReadsDeclaration, Steps, HasRoom, ReadsDeclarations};
-ghost use Rattle.reader.specs.Reads.{ReadsWithin, ReadsModule};
+ghost use Rattle.reader.specs.Reads.{Measures, ReadsModule};
 use expects::Format;
 use expects::HeadRead;
 use expects::NameRead;
@@ -26,25 +26,47 @@ pub struct Limits {
     pub declarations: usize,
 }
 
-// A declaration that was read: how many rows are stored, and where reading goes on; or the refusal.
+// A declaration that was read: how many rows are stored, where reading goes on, and how many frames were open at most; or the refusal.
 pub enum DeclarationRead {
-    Done { rows: usize, next: usize },
+    Done {
+        rows: usize,
+        next: usize,
+        frames: usize,
+    },
     Refused(Refusal),
 }
 
 // What stands next in a module: a declaration, with the same numbers; the end, and where reading goes on behind it; or the refusal.
 enum ModuleStep {
-    Declared { rows: usize, next: usize },
-    End { next: usize },
+    Declared {
+        rows: usize,
+        next: usize,
+        frames: usize,
+    },
+    End {
+        next: usize,
+    },
     Refused(Refusal),
 }
 
-// Declarations that were read: how many rows and declarations are stored, and where reading goes on; or the refusal.
+// Declarations that were read: how many rows and declarations are stored, where reading goes on, and how many frames were open at most
+// in one term; or the refusal.
 pub enum DeclarationsRead {
     Done {
         rows: usize,
         declarations: usize,
         next: usize,
+        frames: usize,
+    },
+    Refused(Refusal),
+}
+
+// A module that was read: how many rows and declarations it has, and how many frames were open at most in one term; or the refusal.
+pub enum ModuleMeasured {
+    Done {
+        rows: usize,
+        declarations: usize,
+        frames: usize,
     },
     Refused(Refusal),
 }
@@ -85,6 +107,7 @@ fn read_body(
             row: 0,
             rows: rows,
             next: at,
+            frames: 0,
         };
     }
     parser::read_term(s, classes, table, work, at, rows, limits.rows, format)
@@ -99,10 +122,11 @@ fn finish_declaration(
     rows: usize,
     k: usize,
     record: [u32; 5],
+    frames: usize,
     format: Format,
 ) -> DeclarationRead
     requires { ⌜ ClassTable (now classes) ⌝ }
-    ensures { λ r. ⌜ Finishes (closing (edition format .tokens (now (s .entry))) (position-at at rows)) k (now (list .entry)) «record» r (now (list .exit)) ⌝ }
+    ensures { λ r. ⌜ Finishes (closing (edition format .tokens (now (s .entry))) (position-at at rows)) k frames (now (list .entry)) «record» r (now (list .exit)) ⌝ }
 {
     let l = expects::expect_rparen(s, classes, at, format);
     match l {
@@ -112,6 +136,7 @@ fn finish_declaration(
             DeclarationRead::Done {
                 rows: rows,
                 next: close.end,
+                frames: frames,
             }
         }
     }
@@ -141,13 +166,44 @@ fn read_named(
             let ty = parser::read_term(s, classes, table, work, behind, rows, limits.rows, format);
             match ty {
                 TermRead::Refused(r) => DeclarationRead::Refused(r),
-                TermRead::Done { row, rows, next } => {
-                    let body = read_body(s, classes, table, work, kind, next, rows, limits, format);
+                TermRead::Done {
+                    row,
+                    rows: typed,
+                    next,
+                    frames,
+                } => {
+                    let body = read_body(
+                        s,
+                        classes,
+                        table,
+                        work,
+                        kind,
+                        next,
+                        typed,
+                        limits,
+                        format,
+                    );
                     match body {
                         TermRead::Refused(r) => DeclarationRead::Refused(r),
-                        TermRead::Done { row: b, rows, next } => {
+                        TermRead::Done {
+                            row: b,
+                            rows,
+                            next,
+                            frames: f,
+                        } => {
                             let record = declaration_record(kind, name, row, b);
-                            finish_declaration(s, classes, list, next, rows, k, record, format)
+                            let most = parser::deeper(frames, f);
+                            finish_declaration(
+                                s,
+                                classes,
+                                list,
+                                next,
+                                rows,
+                                k,
+                                record,
+                                most,
+                                format,
+                            )
                         }
                     }
                 }
@@ -241,9 +297,14 @@ fn next_declaration(
                     );
                     match d {
                         DeclarationRead::Refused(r) => ModuleStep::Refused(r),
-                        DeclarationRead::Done { rows: n, next } => ModuleStep::Declared {
+                        DeclarationRead::Done {
+                            rows: n,
+                            next,
+                            frames,
+                        } => ModuleStep::Declared {
                             rows: n,
                             next: next,
+                            frames: frames,
                         },
                     }
                 }
@@ -275,6 +336,7 @@ pub fn read_declarations(
     let mut at = from;
     let mut rows = 0;
     let mut k = 0;
+    let mut frames = 0;
     loop {
         let step = next_declaration(s, classes, table, list, work, at, rows, k, limits, format);
         match step {
@@ -286,12 +348,18 @@ pub fn read_declarations(
                     rows: rows,
                     declarations: k,
                     next: next,
+                    frames: frames,
                 };
             }
-            ModuleStep::Declared { rows: n, next } => {
+            ModuleStep::Declared {
+                rows: n,
+                next,
+                frames: f,
+            } => {
                 at = next;
                 rows = n;
                 k += 1;
+                frames = parser::deeper(frames, f);
             }
         }
     }
@@ -305,45 +373,47 @@ fn read_by(
     list: &mut [u32],
     work: &mut [u32],
     limits: Limits,
-) -> ModuleRead
+) -> ModuleMeasured
     requires { ⌜ ClassTable (now classes) ⌝ }
-    ensures { λ r. ⌜ (length (now (s .entry)) ≤ 4294967295 → 5632 ≤ length (now (work .entry)) → ReadsWithin limits (read-module (now (s .entry)) (limits .rows) (limits .declarations) 512 start) (now (table .entry)) (now (list .entry)) r (now (table .exit)) (now (list .exit))) ⌝ }
+    ensures { λ r. ⌜ (length (now (s .entry)) ≤ 4294967295 → 5632 ≤ length (now (work .entry)) → Measures limits (read-module (now (s .entry)) (limits .rows) (limits .declarations) 512 start) (now (table .entry)) (now (list .entry)) r (now (table .exit)) (now (list .exit))) ⌝ }
 {
     let h = expects::read_head(s, classes);
     match h {
-        HeadRead::Refused(r) => ModuleRead::Refused(r),
+        HeadRead::Refused(r) => ModuleMeasured::Refused(r),
         HeadRead::Name(format, _, next) => {
             let d = read_declarations(s, classes, table, list, work, next, limits, format);
             match d {
-                DeclarationsRead::Refused(r) => ModuleRead::Refused(r),
+                DeclarationsRead::Refused(r) => ModuleMeasured::Refused(r),
                 DeclarationsRead::Done {
                     rows,
                     declarations,
                     next: _,
-                } => ModuleRead::Done {
+                    frames,
+                } => ModuleMeasured::Done {
                     rows: rows,
                     declarations: declarations,
+                    frames: frames,
                 },
             }
         }
     }
 }
 
-// Here reading begins, and the table of byte classes is made.
-pub fn read_within(
+// Here reading begins, and the table of byte classes is made. With tables that have no place for anything it only counts.
+pub fn measure_within(
     s: &[u8],
     table: &mut [u32],
     list: &mut [u32],
     work: &mut [u32],
     limits: Limits,
-) -> ModuleRead
-    ensures { λ r. ⌜ (length (now (s .entry)) ≤ 4294967295 → 5632 ≤ length (now (work .entry)) → ReadsWithin limits (read-module (now (s .entry)) (limits .rows) (limits .declarations) 512 start) (now (table .entry)) (now (list .entry)) r (now (table .exit)) (now (list .exit))) ⌝ }
+) -> ModuleMeasured
+    ensures { λ r. ⌜ (length (now (s .entry)) ≤ 4294967295 → 5632 ≤ length (now (work .entry)) → Measures limits (read-module (now (s .entry)) (limits .rows) (limits .declarations) 512 start) (now (table .entry)) (now (list .entry)) r (now (table .exit)) (now (list .exit))) ⌝ }
 {
     let classes = token::class_table();
     read_by(s, &classes, table, list, work, limits)
 }
 
-// The same where the tables say how much there is room for: "words divided by 8, rounded down", "words divided by 5, rounded down".
+// The same where the tables say how much there is room for, and the frames are not told: "words divided by 8, rounded down", "words divided by 5, rounded down".
 pub fn read_module(s: &[u8], table: &mut [u32], list: &mut [u32], work: &mut [u32]) -> ModuleRead
     ensures { λ r. ⌜ (length (now (s .entry)) ≤ 65535 → 16384 ≤ length (now (work .entry)) → ReadsModule (read-module (now (s .entry)) (length (now (table .entry)) / 8) (length (now (list .entry)) / 5) 512 start) (now (table .entry)) (now (list .entry)) r (now (table .exit)) (now (list .exit))) ⌝ }
 {
@@ -351,5 +421,16 @@ pub fn read_module(s: &[u8], table: &mut [u32], list: &mut [u32], work: &mut [u3
         rows: table.len() / 8,
         declarations: list.len() / 5,
     };
-    read_within(s, table, list, work, limits)
+    let measured = measure_within(s, table, list, work, limits);
+    match measured {
+        ModuleMeasured::Refused(r) => ModuleRead::Refused(r),
+        ModuleMeasured::Done {
+            rows,
+            declarations,
+            frames: _,
+        } => ModuleRead::Done {
+            rows: rows,
+            declarations: declarations,
+        },
+    }
 }

@@ -1,6 +1,7 @@
 // An answer as plain numbers, and how the library's functions tell them.
 use binding::Binding;
 use dependence::Dependence;
+use least_storage::Storage;
 use lister::Listed;
 use module_name::ModuleName;
 use printing::Printed;
@@ -17,6 +18,7 @@ ghost use Rattle.dependence.specs.Asks.{report-dependence};
 ghost use Rattle.surface.specs.Reports.{offsets, report-refusal, report, token-number, report-token};
 ghost use Rattle.loader.specs.Parsed.{report-read};
 ghost use Rattle.binding.specs.Binds.{report-binding};
+ghost use Rattle.least_storage.specs.Storage.{report-storage};
 ghost use Rattle.module_name.specs.ModuleName.{report-module-name};
 ghost use Rattle.printing.specs.PrintCall.{report-printed};
 ghost use Rattle.same.specs.Comparison.{report-comparison};
@@ -146,6 +148,26 @@ pub fn report_module_name(answer: ModuleName) -> Numbers
     match answer {
         ModuleName::Named { start, length } => report_two(start, length),
         ModuleName::Refused(refusal) => report_refusal(refusal),
+    }
+}
+
+// What a source needs: rows, declarations, open frames.
+pub fn report_storage(answer: Storage) -> Numbers
+    ensures { λ r. ⌜ r ≡ numbers (report-storage answer) ⌝ }
+{
+    match answer {
+        Storage::Needs {
+            rows,
+            declarations,
+            frames,
+        } => Numbers {
+            number: 0,
+            count: 3,
+            first: rows as u64,
+            second: declarations as u64,
+            third: frames as u64,
+        },
+        Storage::Refused(refusal) => report_refusal(refusal),
     }
 }
 

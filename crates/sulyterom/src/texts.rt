@@ -1,12 +1,14 @@
-// The listing, the tokens of a source, and its module's name.
+// The listing, the tokens of a source, its module's name, and the storage that it needs.
 use reports::report_listed;
 use reports::report_module_name;
+use reports::report_storage;
 use reports::report_token;
 use reports::tell;
 use reports::tell_all;
 ghost use mathlib.Core.Path.{_≡_};
 ghost use Rattle.surface.specs.Tables.{tables};
 ghost use Rattle.token.specs.Token.{next-token};
+ghost use Rattle.least_storage.specs.Storage.{Stores, report-storage};
 ghost use Rattle.lister.specs.Lists.{Lists};
 ghost use Rattle.module_name.specs.ModuleName.{module-name, report-module-name};
 ghost use Rattle.surface.specs.Reports.{report-token};
@@ -56,4 +58,15 @@ pub extern "C" fn sulyterom_head(source: &[u8], answer: &mut [u64]) -> u8
     let found = head::head(source);
     let numbers = report_module_name(found);
     tell(answer, numbers)
+}
+
+// The rows, declarations and open frames that a source needs, or the refusal 11, 6, 1, 2, 3 or 7 that loading gives. Only the work area is
+// lent; it is 0 afterwards. `answer` takes four numbers.
+#[no_mangle]
+pub extern "C" fn sulyterom_storage(source: &[u8], work: &mut [u32], answer: &mut [u64]) -> u8
+    ensures { λ r. ⌜ Told (λ a. Stores (now (source .entry)) (now (work .entry)) a (now (work .exit))) report-storage 4 (now (answer .entry)) r (now (answer .exit)) ⌝ }
+{
+    let needed = storage::storage(source, work);
+    let numbers = report_storage(needed);
+    tell_all(answer, numbers)
 }

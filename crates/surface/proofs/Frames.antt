@@ -4,7 +4,7 @@ use Prim.Native.Nat.{ℕ, zero, suc, _≤_}
 use native.Mathlib.Omega.{arith}
 use Rattle.terms.specs.Tree.{Forest, nil, node}
 use Rattle.terms.specs.Label.{Label}
-pub use Rattle.surface.specs.Statements.{opens, frames-of, deepest}
+pub use Rattle.surface.specs.Sizes.{opens, frames-of, deepest}
 
 pub opens-at-most : (a : Forest Label) (n : ℕ) → opens a n ≤ n
 opens-at-most nil n = omega arith

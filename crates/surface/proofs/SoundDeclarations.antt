@@ -123,7 +123,7 @@ module _ (E : Edition) (s : List ℕ) (limit frames : ℕ) where
   declared-done p q₁ q₂ q o t d k w₁ a₁ w₂ a₂ (says-opaque v) e =
       defined-done p q₁ q₂ q o t d 1 w₁ a₁ w₂ a₂ (λ x c ts us a b ds n m y l. opaque a₁ (record { atom = a₂; is = v }) n m y l) e
 
-  declaration-done : (p q₁ q : Position) (o : Token) (d : Declaration) → Took (E .tokens s) p o q₁ → Opens o → declaration E s whole-term (name E s) is-end q₁ ≡ done d q → DeclarationRead p d q
+  pub declaration-done : (p q₁ q : Position) (o : Token) (d : Declaration) → Took (E .tokens s) p o q₁ → Opens o → declaration E s whole-term (name E s) is-end q₁ ≡ done d q → DeclarationRead p d q
   unfolding declaration declared
   declaration-done p q₁ q o d w a e =
       after-elim (atom (E .tokens s) q₁) _ d q e (λ t q₂ f₂ e₂.

@@ -8,4 +8,5 @@ pub mod Loading
 pub mod SameCore
 pub mod Agreement
 pub mod Card
+pub mod Sizes
 pub mod Statements

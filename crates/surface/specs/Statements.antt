@@ -5,14 +5,13 @@ use mathlib.Core.Logic.{_↔_}
 use mathlib.Core.List.{List, [], _∷_, map}
 use mathlib.Core.Option.{none}
 use mathlib.Core.Bool.{false}
-use Prim.Native.Nat.{ℕ, suc, _/_, _≤_, max}
+use Prim.Native.Nat.{ℕ, _/_, _≤_}
 use lib.ListN.{length}
 use Rattle.token.specs.declared.Refusal.{Refusal}
 use Rattle.utf8.specs.Utf8.{byte-order-mark, WellFormed}
-use Rattle.terms.specs.Tree.{Forest, nil, node}
-use Rattle.terms.specs.Label.{Label, Declaration, trees}
+use Rattle.terms.specs.Label.{Declaration}
 use Rattle.terms.specs.Resolution.{first-refused}
-use Rattle.terms.specs.Rows.{surface-rows, first-rows}
+use Rattle.terms.specs.Rows.{first-rows}
 use Rattle.terms.specs.Offsets.{eighth-word, offsets-of, ModuleBegins}
 use Rattle.surface.specs.declared.Answer.{Answer}
 use Rattle.surface.specs.Grammar.{Derives}
@@ -23,24 +22,7 @@ use Rattle.surface.specs.Reports.{Report, accepted, report-refusal, repo
 use Rattle.surface.specs.Loading.{reading, loading, Outcome, Loads}
 use Rattle.surface.specs.SameCore.{row-count, SameCore, Accepts}
 use Rattle.surface.specs.Agreement.{Agreement}
-
--- How many frames are open at once while terms are read: a term with arguments is a frame until they are read.
-abbrev pub opens : Forest Label → ℕ → ℕ
-opens nil n = 0
-opens (node m a r) n = n
-
-abbrev pub frames-of : Forest Label → ℕ
-frames-of nil = 0
-frames-of (node m a r) = max (opens a (suc (frames-of a))) (frames-of r)
-
--- The most that are open at once in a type or a body of some declarations.
-abbrev pub deepest : List Declaration → ℕ
-deepest [] = 0
-deepest (d ∷ l) = max (frames-of (trees d)) (deepest l)
-
--- How many rows they have.
-abbrev pub row-total : List Declaration → ℕ
-row-total ds = length (surface-rows 0 ds)
+pub use Rattle.surface.specs.Sizes.{opens, frames-of, deepest, row-total}
 
 -- What a source must be, whatever is lent: "6 source over 65,535 bytes", UTF-8 without the mark, a module, "7 more than 512 frames".
 pub record Readable (s : List ℕ) (ds : List Declaration) : Type 0 where

@@ -1,6 +1,6 @@
 -- What a call is lent and what it leaves: the lent tables, said once.
 use mathlib.Core.List.{List, []}
-use Prim.Native.Nat.{ℕ}
+use Prim.Native.Nat.{ℕ, _*_}
 use lib.ListN.{length}
 use Rattle.terms.specs.Rows.{pad, joined}
 
@@ -24,6 +24,10 @@ Lengths = Each ℕ ℕ
 
 abbrev pub lengths : Tables → Lengths
 lengths t = record { surface = length (t .surface); core = length (t .core); declarations = length (t .declarations); work = length (t .work) }
+
+-- Tables that no source fills: a row and a declaration for each of its bytes, and a work area of so many words.
+abbrev pub ample : List ℕ → ℕ → Lengths
+ample s work = record { surface = length s * 8; core = length s * 8; declarations = length s * 5; work = work }
 
 -- Tables of such lengths with rows and records at their beginnings: "after acceptance unused rows, unused records, words left over behind
 -- the last whole row or record, and the work area are 0."

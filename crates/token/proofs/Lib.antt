@@ -7,6 +7,7 @@ pub mod Outcomes
 pub mod Bounds
 pub mod Parentheses
 pub mod Local
+pub mod Apart
 mod Blocks
 mod CommentBlocks
 mod SpaceBlocks

@@ -263,6 +263,27 @@ pub fn head(files: &[&OsStr]) -> Result<Answer, NotAsked> {
     Ok(all)
 }
 
+/// What a source needs, and the words of each table that a station lends it.
+pub fn size(file: &OsStr) -> Result<Answer, NotAsked> {
+    let source = Source::read(file)?;
+    Ok(match Loader::new().storage(&source.bytes) {
+        Ok(needs) => {
+            let [surface, core, declarations, work] = needs.words();
+            let lines = [
+                ("rows", needs.rows),
+                ("declarations", needs.declarations),
+                ("frames", needs.frames),
+                ("surface words", surface),
+                ("core words", core),
+                ("declaration words", declarations),
+                ("work words", work),
+            ];
+            Answer::new(Status::Yes, lines.map(|(what, count)| format!("{what} {count}\n")).concat())
+        }
+        Err(refusal) => refused(&source, refusal, Storage::Large),
+    })
+}
+
 pub fn core(file: &OsStr) -> Result<Answer, NotAsked> {
     let source = Source::read(file)?;
     Ok(match Loader::new().print(&source.bytes) {

@@ -22,6 +22,7 @@ pub enum Question<'a> {
     Same(&'a OsStr, &'a OsStr),
     Tokens(&'a OsStr),
     Head(Vec<&'a OsStr>),
+    Size(&'a OsStr),
     Core(&'a OsStr),
     ReadCore(Layout, &'a OsStr),
 }
@@ -41,6 +42,7 @@ pub fn parsed(words: &[OsString]) -> Result<Question<'_>, NotAsked> {
         ("references", [file]) => Ok(Question::References(file)),
         ("tokens", [file]) => Ok(Question::Tokens(file)),
         ("head", [_, ..]) => Ok(Question::Head(rest.to_vec())),
+        ("size", [file]) => Ok(Question::Size(file)),
         ("core", [file]) => Ok(Question::Core(file)),
         ("readcore", [file, canonical] | [canonical, file]) if *canonical == "--canonical" => {
             Ok(Question::ReadCore(Layout::Canonical, file))
@@ -79,6 +81,7 @@ impl Question<'_> {
             Self::Same(one, other) => questions::same(one, other),
             Self::Tokens(file) => questions::tokens(file),
             Self::Head(files) => questions::head(&files),
+            Self::Size(file) => questions::size(file),
             Self::Core(file) => questions::core(file),
             Self::ReadCore(layout, file) => questions::read_core(layout, file),
         }

@@ -41,6 +41,8 @@ pub struct Reader<'a> {
     rows: usize,
     records: usize,
     core_rows: usize,
+    /// So many frames may be open.
+    frames: usize,
     pub read: Read,
 }
 
@@ -58,8 +60,19 @@ impl<'a> Reader<'a> {
             rows: whole(lent.surface.len(), ROW, "rows-rounded-up", "eight-with-space-left"),
             records: whole(lent.declarations.len(), RECORD, "records-rounded-up", "nine-with-space-left"),
             core_rows: lent.core.len() / ROW,
+            frames: match fault() {
+                "frames-511" => 511,
+                "frames-513" => 513,
+                _ => 512,
+            },
             read: Read::default(),
         }
+    }
+
+    /// With tables that are never full.
+    pub fn unbounded(source: &'a [u8], at: usize, frames: usize) -> Self {
+        let most = usize::MAX;
+        Self { source, at, rows: most, records: most, core_rows: most, frames, read: Read::default() }
     }
 
     pub fn module(&mut self) -> Result<()> {
@@ -196,14 +209,9 @@ impl<'a> Reader<'a> {
     /// Opens the frame of this number: its arity, and the node to be filled.
     fn frame(&mut self, parenthesis: Token, tag: Token, number: usize) -> Result<(usize, Node)> {
         let form = FORMS.iter().find(|form| self.is(tag, form.word)).ok_or(malformed(tag))?;
-        let limit = match fault() {
-            "frames-511" => 511,
-            "frames-513" => 513,
-            _ => 512,
-        };
-        self.full_if("seven-before-binder", 7, number > limit)?;
+        self.full_if("seven-before-binder", 7, number > self.frames)?;
         let atom = if form.binds { Some(self.name()?) } else { None };
-        if number > limit {
+        if number > self.frames {
             if is("seven-at-the-first-argument") {
                 self.token()?;
             }

@@ -56,7 +56,7 @@ returns-2 c =
     let m = j .before .before .before .before .before .before .before .before in
     let d = m .read-declarations in
     let a = m .before .before .before .before .before .before .before .before .before .args in
-    end-refused (a .s .now) (a .table .now) (a .list .now) (a .work .now) (a .at) (d .result) (d .last .1 .1 .0) (d .last .1 .1 .1 .0) (d .ensures) _ _ _ (j .d2 .given .1) (y .result) (y .ensures) _ (z .e .given .1)
+    end-refused (a .s .now) (a .table .now) (a .list .now) (a .work .now) (a .at) (d .result) (d .last .1 .1 .0) (d .last .1 .1 .1 .0) (d .ensures) _ _ _ _ (j .d2 .given .1) (y .result) (y .ensures) _ (z .e .given .1)
 
 same-length-7 : tie.Need-same-length-7
 same-length-7 c = search needs
@@ -75,7 +75,7 @@ returns-3 c =
     let m = j .before .before .before .before .before .before .before .before in
     let d = m .read-declarations in
     let a = m .before .before .before .before .before .before .before .before .before .args in
-    text-done (a .s .now) (a .table .now) (a .list .now) (a .work .now) (a .at) (d .result) (d .last .1 .1 .0) (d .last .1 .1 .1 .0) (d .ensures) _ _ _ (j .d2 .given .1) (y .result) (y .ensures) _ (z .enum-told .given .1)
+    text-done (a .s .now) (a .table .now) (a .list .now) (a .work .now) (a .at) (d .result) (d .last .1 .1 .0) (d .last .1 .1 .1 .0) (d .ensures) _ _ _ _ (j .d2 .given .1) (y .result) (y .ensures) _ (z .enum-told .given .1)
 
 pub read-behind-spec : {M : Type 1} → statement M
 read-behind-spec =

@@ -9,11 +9,11 @@ use Rattle.parser.proofs.push_term.Tie as tie
 store-row-requires : tie.Need-store-row-requires
 store-row-requires c κs = search needs
 
-add-t11 : tie.Need-add-t11
-add-t11 c = search needs
+add-t12 : tie.Need-add-t12
+add-t12 c = search needs
 
-cast-t12 : tie.Need-cast-t12
-cast-t12 c = search needs
+cast-t13 : tie.Need-cast-t13
+cast-t13 c = search needs
 
 same-length : tie.Need-same-length
 same-length c = search needs
@@ -21,7 +21,7 @@ same-length c = search needs
 returns : tie.Need-returns
 returns c =
     let k = c .before .before .store-row in
-    let y = pushed-yes _ _ _ _ _ _ (c .before .before .before .before .if1 .taken) in
+    let y = pushed-yes _ _ _ _ _ _ _ (c .before .before .before .before .if1 .taken) in
     (y .0, k .ensures .1 ∙ y .1)
 
 refused-nowhere-requires : tie.Need-refused-nowhere-requires
@@ -29,10 +29,10 @@ refused-nowhere-requires c κs = search needs
 
 returns-2 : tie.Need-returns-2
 returns-2 c =
-    let y = pushed-no _ _ _ _ _ _ (c .before .if1 .left) in
+    let y = pushed-no _ _ _ _ _ _ _ (c .before .if1 .left) in
     (ap TermStep.Refused (c .refused-nowhere .ensures) ∙ y .0, y .1)
 
 pub push-term-spec : {M : Type 1} → statement M
 push-term-spec =
     tie.close
-    (tie.spec store-row-requires add-t11 cast-t12 same-length returns refused-nowhere-requires returns-2)
+    (tie.spec store-row-requires add-t12 cast-t13 same-length returns refused-nowhere-requires returns-2)

@@ -3,15 +3,16 @@ use borrow.Author.Tests.{not-true, not-false}
 use borrow.Author.Needs.{needs}
 use mathlib.Core.Path.{sym, _∙_, subst}
 use mathlib.Core.Bool.{false≢true}
+use native.Mathlib.Omega.{arith}
 use Rattle.expects.specs.Formats.{edition}
-use Rattle.parser.specs.Machine.{setting, weight, TermStepped}
+use Rattle.parser.specs.Machine.{setting, weight, Steps}
 use Rattle.parser.specs.declared.TermStep.{TermStep}
-use Rattle.parser.proofs.Loop.{ready-inside, inside-ready, Reading, start, next, finished, stopped}
+use Rattle.parser.proofs.Loop.{ready-inside, inside-ready, Reading, start, went, next, finished, stopped}
 use Rattle.parser.proofs.read_term.Statement.{statement}
 use Rattle.parser.proofs.read_term.Tie as tie
 
 abbrev Inv-loop : tie.InvT-loop
-Inv-loop s classes table₀ work₀ at rows limit format st₀ table work st = Reading s (setting (edition format) s limit) table₀ work₀ at rows table work st
+Inv-loop s classes table₀ work₀ at rows limit format st₀ table work st = Reading format s limit table₀ work₀ at rows table work st
 
 abbrev μ-loop : tie.MeasureT-loop
 μ-loop s classes table₀ work₀ at rows limit format st₀ table work st = weight s st
@@ -33,7 +34,7 @@ returns c =
 loop-holds : tie.Need-loop-holds Inv-loop μ-loop
 loop-holds c =
     let o = c .before .before .before .before .before in
-    start (o .before .args .s .now) (setting (edition (o .before .args .format)) (o .before .args .s .now) (o .before .args .limit)) (o .before .args .table .now) (o .before .args .work .now) (o .before .args .at) (o .before .args .rows) (ready-inside (o .before .args .s .now) (o .before .args .work .now) (o .before .args .at) (o .before .args .rows) (sym (c .before .is-ready .ensures) ∙ not-false _ (c .if1 .left)))
+    start (o .before .args .format) (o .before .args .s .now) (o .before .args .limit) (o .before .args .table .now) (o .before .args .work .now) (o .before .args .at) (o .before .args .rows) (ready-inside (o .before .args .s .now) (o .before .args .work .now) (o .before .args .at) (o .before .args .rows) (sym (c .before .is-ready .ensures) ∙ not-false _ (c .if1 .left)))
 
 is-ended-requires : tie.Need-is-ended-requires Inv-loop μ-loop
 is-ended-requires c κs = search needs
@@ -48,7 +49,7 @@ returns-2 : tie.Need-returns-2 Inv-loop μ-loop
 returns-2 c =
     λ i. let o = c .before .before .before .before .before .before .before .before in
     let l = c .before .before in
-    finished (o .before .args .s .now) (setting (edition (o .before .args .format)) (o .before .args .s .now) (o .before .args .limit)) (o .before .args .table .now) (o .before .args .work .now) (o .before .args .at) (o .before .args .rows) (l .loop .table) (l .loop .work) (l .loop .st) (l .loop .inv) (sym (c .before .is-ended .ensures) ∙ c .if2 .taken)
+    finished (o .before .args .format) (o .before .args .s .now) (o .before .args .limit) (o .before .args .table .now) (o .before .args .work .now) (o .before .args .at) (o .before .args .rows) (l .loop .table) (l .loop .work) (l .loop .st) (l .loop .inv) (sym (c .before .is-ended .ensures) ∙ c .if2 .taken)
 
 next-step-requires : tie.Need-next-step-requires Inv-loop μ-loop
 next-step-requires c κs = (c .before .before .before .before .loop .inv .inside, (sym (c .before .before .before .is-ended .ensures) ∙ c .before .before .if2 .left, c .before .before .before .before .before .before .before .before .before .before .before .pre))
@@ -61,16 +62,16 @@ loop-less c =
     let l = c .before .before .before .before .before .before .before .before .before .before .before .before in
     let o = l .before .before .before .before .before .before in
     let k = c .before .before .before .before .before .before .before .next-step in
-    let g = subst (λ (x : TermStep). TermStepped (o .before .args .s .now) (setting (edition (o .before .args .format)) (o .before .args .s .now) (o .before .args .limit)) (l .loop .table) (l .loop .work) (l .loop .st) x (k .last .1 .1 .0) (k .last .1 .1 .1 .0)) (c .before .r .given .1) (k .ensures) in
-    g .less
+    let g = subst (λ (x : TermStep). Steps (o .before .args .s .now) (setting (edition (o .before .args .format)) (o .before .args .s .now) (o .before .args .limit)) (l .loop .table) (l .loop .work) (l .loop .st) x (k .last .1 .1 .0) (k .last .1 .1 .1 .0)) (c .before .r .given .1) (k .ensures) in
+    went (o .before .args .format) (o .before .args .s .now) (o .before .args .limit) (o .before .args .table .now) (o .before .args .work .now) (o .before .args .at) (o .before .args .rows) (l .loop .table) (l .loop .work) (l .loop .st) (l .loop .inv) _ _ _ g .less
 
 loop-again : tie.Need-loop-again Inv-loop μ-loop
 loop-again c =
     let l = c .before .before .before .before .before .before .before .before .before .before .before .before in
     let o = l .before .before .before .before .before .before in
     let k = c .before .before .before .before .before .before .before .next-step in
-    let g = subst (λ (x : TermStep). TermStepped (o .before .args .s .now) (setting (edition (o .before .args .format)) (o .before .args .s .now) (o .before .args .limit)) (l .loop .table) (l .loop .work) (l .loop .st) x (k .last .1 .1 .0) (k .last .1 .1 .1 .0)) (c .before .r .given .1) (k .ensures) in
-    next (o .before .args .s .now) (setting (edition (o .before .args .format)) (o .before .args .s .now) (o .before .args .limit)) (o .before .args .table .now) (o .before .args .work .now) (o .before .args .at) (o .before .args .rows) (l .loop .table) (l .loop .work) (l .loop .st) (l .loop .inv) _ _ _ g (k .kept .1 .1 .0) (k .kept .1 .1 .1 .0)
+    let g = subst (λ (x : TermStep). Steps (o .before .args .s .now) (setting (edition (o .before .args .format)) (o .before .args .s .now) (o .before .args .limit)) (l .loop .table) (l .loop .work) (l .loop .st) x (k .last .1 .1 .0) (k .last .1 .1 .1 .0)) (c .before .r .given .1) (k .ensures) in
+    next (o .before .args .format) (o .before .args .s .now) (o .before .args .limit) (o .before .args .table .now) (o .before .args .work .now) (o .before .args .at) (o .before .args .rows) (l .loop .table) (l .loop .work) (l .loop .st) (l .loop .inv) _ _ _ g (k .kept .1 .1 .0) (k .kept .1 .1 .1 .0)
 
 enum-known-r-2 : tie.Need-enum-known-r-2 Inv-loop μ-loop
 enum-known-r-2 c = search needs
@@ -86,8 +87,8 @@ returns-3 c =
     λ i. let l = c .before .before .before .before .before .before .before .before .before .before .before .before in
     let o = l .before .before .before .before .before .before in
     let k = c .before .before .before .before .before .before .before .next-step in
-    let g = subst (λ (x : TermStep). TermStepped (o .before .args .s .now) (setting (edition (o .before .args .format)) (o .before .args .s .now) (o .before .args .limit)) (l .loop .table) (l .loop .work) (l .loop .st) x (k .last .1 .1 .0) (k .last .1 .1 .1 .0)) (c .before .r2 .given .1) (k .ensures) in
-    stopped (o .before .args .s .now) (setting (edition (o .before .args .format)) (o .before .args .s .now) (o .before .args .limit)) (o .before .args .table .now) (o .before .args .work .now) (o .before .args .at) (o .before .args .rows) (l .loop .table) (l .loop .work) (l .loop .st) (l .loop .inv) _ _ g
+    let g = subst (λ (x : TermStep). Steps (o .before .args .s .now) (setting (edition (o .before .args .format)) (o .before .args .s .now) (o .before .args .limit)) (l .loop .table) (l .loop .work) (l .loop .st) x (k .last .1 .1 .0) (k .last .1 .1 .1 .0)) (c .before .r2 .given .1) (k .ensures) in
+    stopped (o .before .args .format) (o .before .args .s .now) (o .before .args .limit) (o .before .args .table .now) (o .before .args .work .now) (o .before .args .at) (o .before .args .rows) (l .loop .table) (l .loop .work) (l .loop .st) (l .loop .inv) _ _ (g .1 512 (l .loop .inv .inside .deepest) (omega arith))
 
 pub read-term-spec : {M : Type 1} → statement M
 read-term-spec =

@@ -5,7 +5,7 @@ use native.Mathlib.Omega.{arith}
 use Rattle.terms.specs.Forms.{arity-of}
 use Rattle.parser.specs.Machine.{pushed-row}
 use Rattle.parser.proofs.Readers.{setting-sound}
-use Rattle.parser.proofs.Steps.{room, takes, more-step, unclosed-step, close-step}
+use Rattle.parser.proofs.Steps.{inside-within, pushed-bounded, room, takes, more-step, unclosed-step, close-step}
 use borrow.Author.Needs.{needs}
 use Rattle.parser.proofs.value_step.Statement.{statement}
 use Rattle.parser.proofs.value_step.Tie as tie
@@ -19,7 +19,7 @@ push-arg-requires c κs =
     let a = o .before .args in
     let d = a .st .depth - 1 in
     let deep : a .st .depth ≡ suc d = omega (arith, o .before .pre .1 .1 .0) in
-    (room (a .s .now) _ (setting-sound (a .format) (a .s .now) (a .limit)) (a .table .now) (a .work .now) (a .st) (o .before .pre .0) d (o .before .pre .1 .0) deep, takes (a .s .now) _ (setting-sound (a .format) (a .s .now) (a .limit)) (a .table .now) (a .work .now) (a .st) (o .before .pre .0) d (o .before .pre .1 .0) deep)
+    (room (a .s .now) _ (setting-sound (a .format) (a .s .now) (a .limit) 512) (a .table .now) (a .work .now) (a .st) (o .before .pre .0) d (o .before .pre .1 .0) deep, takes (a .s .now) _ (setting-sound (a .format) (a .s .now) (a .limit) 512) (a .table .now) (a .work .now) (a .st) (o .before .pre .0) d (o .before .pre .1 .0) deep)
 
 frame-len-requires : tie.Need-frame-len-requires
 frame-len-requires c κs = search needs
@@ -42,7 +42,7 @@ returns c =
     let d = a .st .depth - 1 in
     let deep : a .st .depth ≡ suc d = omega (arith, o .before .pre .1 .1 .0) in
     let kinds = y .arity .ensures ∙ ap arity-of (y .before .frame-kind .ensures) in
-    more-step (a .s .now) _ (setting-sound (a .format) (a .s .now) (a .limit)) (a .table .now) (a .work .now) (a .st) (o .before .pre .0) d (o .before .pre .1 .0) deep _ (k .ensures) (omega (arith, y .before .before .before .frame-len .ensures, kinds, c .if1 .taken)) (k .kept .0)
+    ((omega arith, o .before .pre .0 .deepest), λ l f g. more-step (a .s .now) _ (setting-sound (a .format) (a .s .now) (a .limit) l) (a .table .now) (a .work .now) (a .st) (inside-within (a .s .now) (a .work .now) (a .st) (o .before .pre .0) l f g) d (o .before .pre .1 .0) deep _ (k .ensures) (omega (arith, y .before .before .before .frame-len .ensures, kinds, c .if1 .taken)) (k .kept .0))
 
 expect-rparen-requires : tie.Need-expect-rparen-requires
 expect-rparen-requires c κs = search needs
@@ -76,7 +76,7 @@ returns-2 c =
     let d = a .st .depth - 1 in
     let deep : a .st .depth ≡ suc d = omega (arith, o .before .pre .1 .1 .0) in
     let kinds = y .arity .ensures ∙ ap arity-of (y .before .frame-kind .ensures) in
-    unclosed-step (a .s .now) _ (setting-sound (a .format) (a .s .now) (a .limit)) (a .table .now) (a .work .now) (a .st) (o .before .pre .0) d (o .before .pre .1 .0) deep _ (k .ensures) (omega (arith, y .before .before .before .frame-len .ensures, kinds, c .before .before .before .before .if1 .left)) _ (c .before .before .before .expect-rparen .ensures) _ (c .before .close .given .1)
+    (tt, λ l f g. unclosed-step (a .s .now) _ (setting-sound (a .format) (a .s .now) (a .limit) l) (a .table .now) (a .work .now) (a .st) (inside-within (a .s .now) (a .work .now) (a .st) (o .before .pre .0) l f g) d (o .before .pre .1 .0) deep _ (k .ensures) (omega (arith, y .before .before .before .frame-len .ensures, kinds, c .before .before .before .before .if1 .left)) _ (c .before .before .before .expect-rparen .ensures) _ (c .before .close .given .1))
 
 same-length-3 : tie.Need-same-length-3
 same-length-3 c = search needs
@@ -93,10 +93,12 @@ returns-3 c =
     let d = a .st .depth - 1 in
     let deep : a .st .depth ≡ suc d = omega (arith, o .before .pre .1 .1 .0) in
     let kinds = y .arity .ensures ∙ ap arity-of (y .before .frame-kind .ensures) in
-    let p = c .before .before .push-term in
-    close-step (a .s .now) _ (setting-sound (a .format) (a .s .now) (a .limit)) (a .table .now) (a .work .now) (a .st) (o .before .pre .0) d (o .before .pre .1 .0) deep _ (k .ensures) (omega (arith, y .before .before .before .frame-len .ensures, kinds, c .before .before .before .before .before .before .before .before .before .before .before .before .before .if1 .left)) _ (c .before .before .before .before .before .before .before .before .before .before .before .before .expect-rparen .ensures) _ _ _ _
-    (c .before .before .before .before .before .before .before .before .before .before .close2 .given .1) (c .before .before .before .before .before .before .before .load-frame .ensures) (k .kept .0) (p .ensures .0)
-    (p .ensures .1 ∙ ap (pushed-row (a .limit) (a .table .now) (a .st .rows)) (c .before .before .before .before .term-row .ensures))
+    let p = c .before .before .push-term in (
+      pushed-bounded (a .st) (a .limit) _ _ _ _ (o .before .pre .0 .deepest) (p .ensures .0),
+      λ l f g. close-step (a .s .now) _ (setting-sound (a .format) (a .s .now) (a .limit) l) (a .table .now) (a .work .now) (a .st) (inside-within (a .s .now) (a .work .now) (a .st) (o .before .pre .0) l f g) d (o .before .pre .1 .0) deep _ (k .ensures) (omega (arith, y .before .before .before .frame-len .ensures, kinds, c .before .before .before .before .before .before .before .before .before .before .before .before .before .if1 .left)) _ (c .before .before .before .before .before .before .before .before .before .before .before .before .expect-rparen .ensures) _ _ _ _
+          (c .before .before .before .before .before .before .before .before .before .before .close2 .given .1) (c .before .before .before .before .before .before .before .load-frame .ensures) (k .kept .0) (p .ensures .0)
+          (p .ensures .1 ∙ ap (pushed-row (a .limit) (a .table .now) (a .st .rows)) (c .before .before .before .before .term-row .ensures)),
+    )
 
 pub value-step-spec : {M : Type 1} → statement M
 value-step-spec =

@@ -20,7 +20,7 @@ returns : tie.Need-returns
 returns c =
     let k = c .before in
     let a = k .before .before .before .before .before .before .args in
-    end-refused (a .format) (a .s .now) (a .at) _ _ _ _ _ (k .before .before .expect-rparen .ensures) _ (k .l .given .1)
+    end-refused (a .format) (a .s .now) (a .at) _ _ _ _ _ _ (k .before .before .expect-rparen .ensures) _ (k .l .given .1)
 
 same-length : tie.Need-same-length
 same-length c = search needs
@@ -29,7 +29,7 @@ returns-2 : tie.Need-returns-2
 returns-2 c =
     let k = c .before .before .before .before .before in
     let a = k .before .before .before .before .before .before .args in
-    end-got (a .format) (a .s .now) (a .at) _ _ _ _ _ (k .before .before .expect-rparen .ensures) _ (k .l2 .given .1) _ (c .before .before .store-record .ensures .1)
+    end-got (a .format) (a .s .now) (a .at) _ _ _ _ _ _ (k .before .before .expect-rparen .ensures) _ (k .l2 .given .1) _ (c .before .before .store-record .ensures .1)
 
 pub finish-declaration-spec : {M : Type 1} → statement M
 finish-declaration-spec =

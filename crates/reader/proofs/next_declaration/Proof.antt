@@ -114,7 +114,7 @@ returns-5 c =
           (i .next-token .result) (i .next-token .ensures) (x .l2 .given .0 .0) (x .l2 .given .1) (f .before .before .enum-told .given .1)
           (d .read-declaration .result) (d .read-declaration .last .1 .1 .0) (d .read-declaration .last .1 .1 .1 .0)
           (d .read-declaration .kept .1 .1 .0) (d .read-declaration .kept .1 .1 .1 .0) (d .read-declaration .kept .1 .1 .1 .1 .0)
-          (d .read-declaration .ensures) _ _ (y .d2 .given .1),
+          (d .read-declaration .ensures) _ _ _ (y .d2 .given .1),
       omega arith,
     )
 

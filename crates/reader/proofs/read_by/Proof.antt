@@ -67,7 +67,7 @@ returns-3 c =
     let a = i .before .before .before .before .before .before .args in
     λ short wide.
     module-done (a .limits) (a .s .now) (a .table .now) (a .list .now) (i .read-head .result) (i .read-head .ensures) _ _ _ (x .h2 .given .1) (a .work .now) short wide
-    (d .read-declarations .result) (d .read-declarations .last .1 .1 .0) (d .read-declarations .last .1 .1 .1 .0) (d .read-declarations .ensures) _ _ _ (y .d2 .given .1)
+    (d .read-declarations .result) (d .read-declarations .last .1 .1 .0) (d .read-declarations .last .1 .1 .1 .0) (d .read-declarations .ensures) _ _ _ _ (y .d2 .given .1)
 
 pub read-by-spec : {M : Type 1} → statement M
 read-by-spec =

@@ -8,10 +8,10 @@ use Rattle.reader.proofs.read_declarations.Statement.{statement}
 use Rattle.reader.proofs.read_declarations.Tie as tie
 
 abbrev Inv-loop : tie.InvT-loop
-Inv-loop s classes table₀ list₀ work₀ from limits format at₀ rows₀ k₀ table list work at rows k = Reading format limits s table₀ list₀ work₀ from table list work at rows k
+Inv-loop s classes table₀ list₀ work₀ from limits format at₀ rows₀ k₀ frames₀ table list work at rows k frames = Reading format limits s table₀ list₀ work₀ from table list work at rows k frames
 
 abbrev μ-loop : tie.MeasureT-loop
-μ-loop s classes table₀ list₀ work₀ from limits format at₀ rows₀ k₀ table list work at rows k = limits .declarations - k
+μ-loop s classes table₀ list₀ work₀ from limits format at₀ rows₀ k₀ frames₀ table list work at rows k frames = limits .declarations - k
 
 loop-holds : tie.Need-loop-holds Inv-loop μ-loop
 loop-holds c =
@@ -45,7 +45,7 @@ returns c =
     let d = m .next-declaration in
     let l = m .before .before .before .before .loop in
     let a = m .before .before .before .before .before .before .before .before .before .before .args in
-    stopped (a .format) (a .limits) (a .s .now) (a .table .now) (a .list .now) (a .work .now) (a .from) (l .table) (l .list) (l .work) (l .at) (l .rows) (l .k) (l .inv)
+    stopped (a .format) (a .limits) (a .s .now) (a .table .now) (a .list .now) (a .work .now) (a .from) (l .table) (l .list) (l .work) (l .at) (l .rows) (l .k) (l .frames) (l .inv)
     (d .result) (d .last .1 .1 .0) (d .last .1 .1 .1 .0) (d .last .1 .1 .1 .1 .0) (d .ensures .0) _ (c .before .step .given .1)
 
 enum-known-step-2 : tie.Need-enum-known-step-2 Inv-loop μ-loop
@@ -72,7 +72,7 @@ returns-2 c =
     let d = m .next-declaration in
     let l = m .before .before .before .before .loop in
     let a = m .before .before .before .before .before .before .before .before .before .before .args in
-    ended (a .format) (a .limits) (a .s .now) (a .table .now) (a .list .now) (a .work .now) (a .from) (l .table) (l .list) (l .work) (l .at) (l .rows) (l .k) (l .inv)
+    ended (a .format) (a .limits) (a .s .now) (a .table .now) (a .list .now) (a .work .now) (a .from) (l .table) (l .list) (l .work) (l .at) (l .rows) (l .k) (l .frames) (l .inv)
     (d .result) (d .last .1 .1 .0) (d .last .1 .1 .1 .0) (d .last .1 .1 .1 .1 .0) (d .ensures .0) _ (c .before .step2 .given .1)
 
 enum-known-step-3 : tie.Need-enum-known-step-3 Inv-loop μ-loop
@@ -84,29 +84,32 @@ add-k c =
     let d = m .next-declaration in
     let l = m .before .before .before .before .loop in
     let a = m .before .before .before .before .before .before .before .before .before .before .args in
-    let h = roomy (a .format) (a .limits) (a .s .now) (a .table .now) (a .list .now) (a .work .now) (a .from) (l .table) (l .list) (l .work) (l .at) (l .rows) (l .k) (l .inv)
-    (d .result) (d .last .1 .1 .0) (d .last .1 .1 .1 .0) (d .last .1 .1 .1 .1 .0) (d .ensures .0) (d .ensures .1) _ _ (c .before .step3 .given .1) in
+    let h = roomy (a .format) (a .limits) (a .s .now) (a .table .now) (a .list .now) (a .work .now) (a .from) (l .table) (l .list) (l .work) (l .at) (l .rows) (l .k) (l .frames) (l .inv)
+    (d .result) (d .last .1 .1 .0) (d .last .1 .1 .1 .0) (d .last .1 .1 .1 .1 .0) (d .ensures .0) (d .ensures .1) _ _ _ (c .before .step3 .given .1) in
     omega (arith, l .inv .list-long, m .before .before .before .before .before .before .before .before .before .before .good)
+
+deeper-requires : tie.Need-deeper-requires Inv-loop μ-loop
+deeper-requires c κs = search needs
 
 loop-less : tie.Need-loop-less Inv-loop μ-loop
 loop-less c =
-    let m = c .before .before .before .before .before .before .before .before .before in
+    let m = c .before .before .before .before .before .before .before .before .before .before in
     let d = m .next-declaration in
     let l = m .before .before .before .before .loop in
     let a = m .before .before .before .before .before .before .before .before .before .before .args in
-    let h = roomy (a .format) (a .limits) (a .s .now) (a .table .now) (a .list .now) (a .work .now) (a .from) (l .table) (l .list) (l .work) (l .at) (l .rows) (l .k) (l .inv)
-    (d .result) (d .last .1 .1 .0) (d .last .1 .1 .1 .0) (d .last .1 .1 .1 .1 .0) (d .ensures .0) (d .ensures .1) _ _ (c .before .step3 .given .1) in
+    let h = roomy (a .format) (a .limits) (a .s .now) (a .table .now) (a .list .now) (a .work .now) (a .from) (l .table) (l .list) (l .work) (l .at) (l .rows) (l .k) (l .frames) (l .inv)
+    (d .result) (d .last .1 .1 .0) (d .last .1 .1 .1 .0) (d .last .1 .1 .1 .1 .0) (d .ensures .0) (d .ensures .1) _ _ _ (c .before .before .step3 .given .1) in
     omega (arith, l .inv .list-long)
 
 loop-again : tie.Need-loop-again Inv-loop μ-loop
 loop-again c =
-    let m = c .before .before .before .before .before .before .before .before .before in
+    let m = c .before .before .before .before .before .before .before .before .before .before in
     let d = m .next-declaration in
     let l = m .before .before .before .before .loop in
     let a = m .before .before .before .before .before .before .before .before .before .before .args in
-    next (a .format) (a .limits) (a .s .now) (a .table .now) (a .list .now) (a .work .now) (a .from) (l .table) (l .list) (l .work) (l .at) (l .rows) (l .k) (l .inv)
+    next (a .format) (a .limits) (a .s .now) (a .table .now) (a .list .now) (a .work .now) (a .from) (l .table) (l .list) (l .work) (l .at) (l .rows) (l .k) (l .frames) (l .inv)
     (d .result) (d .last .1 .1 .0) (d .last .1 .1 .1 .0) (d .last .1 .1 .1 .1 .0) (d .ensures .0)
-    (d .ensures .1) (d .kept .1 .1 .0) (d .kept .1 .1 .1 .0) (d .kept .1 .1 .1 .1 .0) _ _ (c .before .step3 .given .1)
+    (d .ensures .1) (d .kept .1 .1 .0) (d .kept .1 .1 .1 .0) (d .kept .1 .1 .1 .1 .0) _ _ _ _ (c .before .before .step3 .given .1) (c .deeper .ensures)
 
 pub read-declarations-spec : {M : Type 1} → statement M
 read-declarations-spec =
@@ -128,5 +131,6 @@ read-declarations-spec =
     returns-2
     enum-known-step-3
     add-k
+    deeper-requires
     loop-less
     loop-again)

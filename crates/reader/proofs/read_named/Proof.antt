@@ -2,6 +2,7 @@
 use Rattle.reader.proofs.Declarations.{stops, name-refused}
 use Rattle.reader.proofs.Named.{name-order, type-stops, body-stops, ends}
 use borrow.Author.Needs.{needs}
+use mathlib.Core.Path.{_∙_}
 use Rattle.reader.proofs.read_named.Statement.{statement}
 use Rattle.reader.proofs.read_named.Tie as tie
 
@@ -40,10 +41,13 @@ declaration-record-requires c κs =
 
 finish-declaration-requires : tie.Need-finish-declaration-requires
 finish-declaration-requires c κs =
-    let z = c .before .before .before in
+    let z = c .before .before .before .before in
     let y = z .before .before .before .before .before .before .before .before .before .before in
     let x = y .before .before .before .before .before .before .before .before .before .before in
     x .before .before .before .before .before .before .before .before .pre
+
+deeper-requires : tie.Need-deeper-requires
+deeper-requires c κs = search needs
 
 returns : tie.Need-returns
 returns c =
@@ -91,10 +95,10 @@ returns-3 c =
     body-stops (a .format) (a .limits) (a .s .now) (a .table .now) (a .list .now) (a .work .now) (a .at) (a .rows) (a .k) t j (a .kind) w room is
     (i .parse-name .result) (i .parse-name .ensures) _ _ (x .x2 .given .1)
     (g .read-term .result) (g .read-term .last .1 .1 .0) (g .read-term .last .1 .1 .1 .0) (g .read-term .kept .1 .1 .0) (g .read-term .kept .1 .1 .1 .0) (g .read-term .ensures)
-    _ _ _ (y .ty2 .given .1) (f .read-body .result) (f .read-body .last .1 .1 .0) (f .read-body .ensures) _ (z .body .given .1) _
+    _ _ _ _ (y .ty2 .given .1) (f .read-body .result) (f .read-body .last .1 .1 .0) (f .read-body .ensures) _ (z .body .given .1) _
 
 same-length-5 : tie.Need-same-length-5
-same-length-5 c = search needs
+same-length-5 c = c .before .before .before .before .before .before .before .before .before .before .before .before .before .read-body .kept .1 .1 .0 ∙ c .before .before .before .before .before .before .before .before .before .before .before .before .before .before .before .before .before .before .before .before .before .before .before .read-term .kept .1 .1 .0
 
 same-length-6 : tie.Need-same-length-6
 same-length-6 c = search needs
@@ -105,7 +109,8 @@ same-length-7 c = search needs
 returns-4 : tie.Need-returns-4
 returns-4 c =
     let e = c .before .before in
-    let d = e .before .before in
+    let m = e .before .before in
+    let d = m .before in
     let z = d .before .before in
     let f = z .before .before .before .before .before .before in
     let y = f .before .before .before .before in
@@ -117,8 +122,8 @@ returns-4 c =
     ends (a .format) (a .limits) (a .s .now) (a .table .now) (a .list .now) (a .work .now) (a .at) (a .rows) (a .k) t j (a .kind) w room is
     (i .parse-name .result) (i .parse-name .ensures) _ _ (x .x2 .given .1)
     (g .read-term .result) (g .read-term .last .1 .1 .0) (g .read-term .last .1 .1 .1 .0) (g .read-term .kept .1 .1 .0) (g .read-term .kept .1 .1 .1 .0) (g .read-term .ensures)
-    _ _ _ (y .ty2 .given .1) (f .read-body .result) (f .read-body .last .1 .1 .0) (f .read-body .ensures)
-    _ _ _ (z .body2 .given .1) _ (d .declaration-record .ensures) _ _ (e .finish-declaration .ensures)
+    _ _ _ _ (y .ty2 .given .1) (f .read-body .result) (f .read-body .last .1 .1 .0) (f .read-body .ensures)
+    _ _ _ _ (z .body2 .given .1) _ (m .deeper .ensures) _ (d .declaration-record .ensures) _ _ (e .finish-declaration .ensures)
 
 pub read-named-spec : {M : Type 1} → statement M
 read-named-spec =
@@ -134,6 +139,7 @@ read-named-spec =
     enum-known-body
     enum-known-body-2
     declaration-record-requires
+    deeper-requires
     finish-declaration-requires
     returns
     same-length

@@ -1,0 +1,17 @@
+pub mod FromSource
+pub mod TokenBytes
+pub mod LineBytes
+pub mod FormBytes
+pub mod TermBytes
+pub mod DeclarationBytes
+pub mod Bytes
+pub mod TextBytes
+pub mod Cut
+pub mod Ends
+pub mod MetFirst
+pub mod Parsed
+pub mod Needed
+pub mod Loaded
+pub mod Fewer
+pub mod Refusals
+pub mod Statements
