@@ -25,9 +25,10 @@ use Rattle.expects.specs.declared.Format.{Format}
 use Rattle.expects.specs.Formats.{edition, declared-name, ends}
 use Rattle.reader.specs.declared.Limits.{Limits}
 use Rattle.reader.specs.declared.DeclarationRead.{DeclarationRead}
+use Rattle.reader.specs.declared.ModuleStep.{ModuleStep}
 use Rattle.reader.specs.declared.DeclarationsRead.{DeclarationsRead}
 use Rattle.reader.specs.ModuleWords.{whole-term, one-declaration, all-declarations, format-row, format-rows, row-words}
-use Rattle.reader.specs.Parts.{ReadsFrom, left, Went}
+use Rattle.reader.specs.Parts.{ReadsFrom, left, Went, as-step, ModuleStepped, HasRoom}
 use Rattle.reader.specs.Reads.{Holds, ModuleInside, Declares}
 use Rattle.reader.proofs.Ahead.{declaration-onward}
 use Rattle.reader.proofs.Words.{joined-append, length-forest}
@@ -148,14 +149,14 @@ module _ (format : Format) (limits : Limits) (s table list : List ℕ) (at n k :
 
   module _ (y : DeclarationRead) (table₁ list₁ : List ℕ) (u : length table₁ ≡ length table) (v : length list₁ ≡ length list) (w : length work₁ ≡ length work)
       (g : ModuleInside (limits .rows) s work (t .end) n → k < limits .declarations → Declares format limits one n k table list y table₁ list₁) where
-    pub declaration-stops : (r : Refusal) → y ≡ DeclarationRead.Refused r → left format limits s at n k ≡ refused r
+    declaration-stops : (r : Refusal) → y ≡ DeclarationRead.Refused r → left format limits s at n k ≡ refused r
     declaration-stops r i = by one refl (g behind-parenthesis room)
       where
         by : (z : Result Declaration) → one ≡ z → Declares format limits z n k table list y table₁ list₁ → left format limits s at n k ≡ refused r
         by (done d q) j f = absurd (let z : _≡_ {A = ℕ} 0 1 = cc (f .0) in omega arith)
         by (refused c) j f = opens-to ∙ rw j (ap refused (cc))
 
-    pub went : (n₁ at₁ own : ℕ) → y ≡ DeclarationRead.Done n₁ at₁ own → Went format limits s table list at n k at₁ n₁ own table₁ list₁ work₁
+    went : (n₁ at₁ own : ℕ) → y ≡ DeclarationRead.Done n₁ at₁ own → Went format limits s table list at n k at₁ n₁ own table₁ list₁ work₁
     went n₁ at₁ own i = by one refl (g behind-parenthesis room)
       where
         by : (z : Result Declaration) → one ≡ z → Declares format limits z n k table list y table₁ list₁ → Went format limits s table list at n k at₁ n₁ own table₁ list₁ work₁
@@ -180,3 +181,18 @@ module _ (format : Format) (limits : Limits) (s table list : List ℕ) (at n k :
                   (further format limits n k n₁ table list table₁ list₁ d (o .rows) m room u v (f .1) (f .2) top (all-declarations format s (limits .rows) others (position-at at₁ n₁)) r table₂ list₂
                   (subst (λ (i : ℕ). ReadsFrom format limits n₁ (k + 1) (max top i) (all-declarations format s (limits .rows) others (position-at at₁ n₁)) table₁ list₁ r table₂ list₂) owned a));
             }
+
+    -- What stood next, then.
+    pub declared-step : (r : ModuleStep) → r ≡ as-step y → ModuleStepped format limits s table list at n k r table₁ list₁ work₁
+    declared-step r q = subst (λ (z : ModuleStep). ModuleStepped format limits s table list at n k z table₁ list₁ work₁) (sym q) (by y refl)
+      where
+        by : (z : DeclarationRead) → y ≡ z → ModuleStepped format limits s table list at n k (as-step z) table₁ list₁ work₁
+        by (DeclarationRead.Done n₁ at₁ own) e = went n₁ at₁ own e
+        by (DeclarationRead.Refused x) e = declaration-stops x e
+
+pub declared-room : (limits : Limits) (k : ℕ) (y : DeclarationRead) (r : ModuleStep) → r ≡ as-step y → k < limits .declarations → HasRoom limits k r
+declared-room limits k y r q room = subst (HasRoom limits k) (sym q) (by y)
+  where
+    by : (z : DeclarationRead) → HasRoom limits k (as-step z)
+    by (DeclarationRead.Done n₁ at₁ own) = room
+    by (DeclarationRead.Refused x) = tt

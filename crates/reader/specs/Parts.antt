@@ -68,6 +68,11 @@ pub record Went (f : Format) (limits : Limits) (s table list : List ℕ) (at n k
   pub same : (h : ℕ) (r : DeclarationsRead) (table₂ list₂ : List ℕ)
       → ReadsFrom f limits n₁ (k + 1) (max h frames) (left f limits s at₁ n₁ (k + 1)) table₁ list₁ r table₂ list₂ → ReadsFrom f limits n k h (left f limits s at n k) table list r table₂ list₂
 
+-- A declaration, as what stood next.
+abbrev pub as-step : DeclarationRead → ModuleStep
+as-step (DeclarationRead.Done n at frames) = ModuleStep.Declared n at frames
+as-step (DeclarationRead.Refused r) = ModuleStep.Refused r
+
 -- What stands next behind n rows and k declarations.
 abbrev pub ModuleStepped : Format → Limits → List ℕ → List ℕ → List ℕ → ℕ → ℕ → ℕ → ModuleStep → List ℕ → List ℕ → List ℕ → Type 0
 ModuleStepped f limits s table list at n k (ModuleStep.Declared n₁ at₁ frames) table₁ list₁ work₁ = Went f limits s table list at n k at₁ n₁ frames table₁ list₁ work₁

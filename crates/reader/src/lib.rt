@@ -9,7 +9,7 @@ ghost use Rattle.surface.specs.Reader.{start};
 ghost use Rattle.surface.specs.Reading.{closing, read-module};
 ghost use Rattle.expects.specs.Formats.{edition};
 ghost use Rattle.expects.specs.Expects.{position-at};
-ghost use Rattle.reader.specs.Parts.{ReadsBody, Finishes, ReadsNamed, ReadsDeclaration, Steps, HasRoom, ReadsDeclarations};
+ghost use Rattle.reader.specs.Parts.{ReadsBody, Finishes, ReadsNamed, ReadsDeclaration, as-step, Steps, HasRoom, ReadsDeclarations};
 ghost use Rattle.reader.specs.Reads.{Measures, ReadsModule};
 use expects::Format;
 use expects::HeadRead;
@@ -168,21 +168,11 @@ fn read_named(
                 TermRead::Refused(r) => DeclarationRead::Refused(r),
                 TermRead::Done {
                     row,
-                    rows: typed,
+                    rows: n,
                     next,
                     frames,
                 } => {
-                    let body = read_body(
-                        s,
-                        classes,
-                        table,
-                        work,
-                        kind,
-                        next,
-                        typed,
-                        limits,
-                        format,
-                    );
+                    let body = read_body(s, classes, table, work, kind, next, n, limits, format);
                     match body {
                         TermRead::Refused(r) => DeclarationRead::Refused(r),
                         TermRead::Done {
@@ -192,18 +182,8 @@ fn read_named(
                             frames: f,
                         } => {
                             let record = declaration_record(kind, name, row, b);
-                            let most = parser::deeper(frames, f);
-                            finish_declaration(
-                                s,
-                                classes,
-                                list,
-                                next,
-                                rows,
-                                k,
-                                record,
-                                most,
-                                format,
-                            )
+                            let top = parser::deeper(frames, f);
+                            finish_declaration(s, classes, list, next, rows, k, record, top, format)
                         }
                     }
                 }
@@ -255,6 +235,16 @@ fn read_declaration(
     }
 }
 
+// A declaration, as what stood next.
+fn declared(d: DeclarationRead) -> ModuleStep
+    ensures { λ r. ⌜ r ≡ as-step d ⌝ }
+{
+    match d {
+        DeclarationRead::Refused(r) => ModuleStep::Refused(r),
+        DeclarationRead::Done { rows, next, frames } => ModuleStep::Declared { rows, next, frames },
+    }
+}
+
 // What stands next: the end, or a declaration. A full list is refused before the declaration's word is read.
 fn next_declaration(
     s: &[u8],
@@ -295,18 +285,7 @@ fn next_declaration(
                         limits,
                         format,
                     );
-                    match d {
-                        DeclarationRead::Refused(r) => ModuleStep::Refused(r),
-                        DeclarationRead::Done {
-                            rows: n,
-                            next,
-                            frames,
-                        } => ModuleStep::Declared {
-                            rows: n,
-                            next: next,
-                            frames: frames,
-                        },
-                    }
+                    declared(d)
                 }
                 _ => {
                     if expects::is_ending(kind, format) {

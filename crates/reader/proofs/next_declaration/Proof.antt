@@ -4,7 +4,7 @@ use mathlib.Core.List.{[], _∷_}
 use Prim.Native.Nat.{_-_}
 use native.Mathlib.Omega.{arith}
 use types.Run.{miss}
-use Rattle.reader.proofs.Steps.{next-refused, next-full, next-other, ends-here, declaration-stops, went}
+use Rattle.reader.proofs.Steps.{next-refused, next-full, next-other, ends-here, declared-step, declared-room}
 use borrow.Author.Needs.{needs}
 use Rattle.reader.proofs.next_declaration.Statement.{statement}
 use Rattle.reader.proofs.next_declaration.Tie as tie
@@ -38,14 +38,11 @@ returns c =
 read-declaration-requires : tie.Need-read-declaration-requires
 read-declaration-requires c κs = search needs
 
-enum-known-d : tie.Need-enum-known-d
-enum-known-d c = search needs
-
-enum-known-d-2 : tie.Need-enum-known-d-2
-enum-known-d-2 c = search needs
-
 is-ending-requires : tie.Need-is-ending-requires
 is-ending-requires c κs = search needs
+
+declared-requires : tie.Need-declared-requires
+declared-requires c κs = search needs
 
 returns-2 : tie.Need-returns-2
 returns-2 c =
@@ -79,47 +76,21 @@ same-length-3 c = search needs
 
 returns-4 : tie.Need-returns-4
 returns-4 c =
-    let y = c .before in
-    let d = y .before .before .before .before .before .before .before .before in
+    let d = c .before .before .before .before .before .before .before in
     let f = d .before .before .before .before in
     let x = f .before .before .before .before .before in
     let i = x .before .before in
     let a = i .before .before .before .before .before .before .args in (
-      λ w few. declaration-stops (a .format) (a .limits) (a .s .now) (a .table .now) (a .list .now) (a .at) (a .rows) (a .k) (a .work .now) (d .read-declaration .last .1 .1 .1 .1 .0) w (omega arith)
+      λ w few. declared-step (a .format) (a .limits) (a .s .now) (a .table .now) (a .list .now) (a .at) (a .rows) (a .k) (a .work .now) (d .read-declaration .last .1 .1 .1 .1 .0) w (omega arith)
           (i .next-token .result) (i .next-token .ensures) (x .l2 .given .0 .0) (x .l2 .given .1) (f .before .before .enum-told .given .1)
           (d .read-declaration .result) (d .read-declaration .last .1 .1 .0) (d .read-declaration .last .1 .1 .1 .0)
           (d .read-declaration .kept .1 .1 .0) (d .read-declaration .kept .1 .1 .1 .0) (d .read-declaration .kept .1 .1 .1 .1 .0)
-          (d .read-declaration .ensures) _ (y .d .given .1),
-      tt,
+          (d .read-declaration .ensures) _ (c .declared .ensures),
+      declared-room (a .limits) (a .k) (d .read-declaration .result) _ (c .declared .ensures) (omega arith),
     )
-
-same-length-4 : tie.Need-same-length-4
-same-length-4 c = search needs
-
-same-length-5 : tie.Need-same-length-5
-same-length-5 c = search needs
-
-same-length-6 : tie.Need-same-length-6
-same-length-6 c = search needs
 
 returns-5 : tie.Need-returns-5
 returns-5 c =
-    let y = c .before in
-    let d = y .before .before .before .before .before .before .before .before in
-    let f = d .before .before .before .before in
-    let x = f .before .before .before .before .before in
-    let i = x .before .before in
-    let a = i .before .before .before .before .before .before .args in (
-      λ w few. went (a .format) (a .limits) (a .s .now) (a .table .now) (a .list .now) (a .at) (a .rows) (a .k) (a .work .now) (d .read-declaration .last .1 .1 .1 .1 .0) w (omega arith)
-          (i .next-token .result) (i .next-token .ensures) (x .l2 .given .0 .0) (x .l2 .given .1) (f .before .before .enum-told .given .1)
-          (d .read-declaration .result) (d .read-declaration .last .1 .1 .0) (d .read-declaration .last .1 .1 .1 .0)
-          (d .read-declaration .kept .1 .1 .0) (d .read-declaration .kept .1 .1 .1 .0) (d .read-declaration .kept .1 .1 .1 .1 .0)
-          (d .read-declaration .ensures) _ _ _ (y .d2 .given .1),
-      omega arith,
-    )
-
-returns-6 : tie.Need-returns-6
-returns-6 c =
     let f = c .before in
     let g = f .before in
     let x = g .before .before .before in
@@ -141,8 +112,7 @@ next-declaration-spec =
     refused-nowhere-requires
     returns
     read-declaration-requires
-    enum-known-d
-    enum-known-d-2
+    declared-requires
     is-ending-requires
     returns-2
     refused-at-requires
@@ -151,8 +121,4 @@ next-declaration-spec =
     same-length-2
     same-length-3
     returns-4
-    same-length-4
-    same-length-5
-    same-length-6
-    returns-5
-    returns-6)
+    returns-5)
