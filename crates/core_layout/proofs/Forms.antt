@@ -8,26 +8,15 @@ use lib.Dec.{eqb}
 use borrow.Author.Tests.{eq-eqb, not-true}
 use Rattle.token.specs.declared.Token.{Token}
 use Rattle.words.specs.Words.{same-bytes}
-use Rattle.words.proofs.Names.{same-eq}
 use Rattle.terms.specs.Forms.{Shape, alone, with-name, with-numeral, binding, plain, Form, forms, form-of-word, form-of-kind}
 use Rattle.terms.specs.TextForms.{text-forms}
 use Rattle.terms.specs.Label.{Name}
 use Rattle.terms.proofs.Names.{none-some, some-inj}
-use Rattle.terms.proofs.FormTable.{every, of-word}
+use Rattle.terms.proofs.FormTable.{every, of-word, word-is}
 use Rattle.surface.specs.Text.{text}
 use Rattle.surface.specs.Grammar.{Tag}
 use Rattle.core_text.specs.TextReading.{text-edition}
 use Rattle.printing.specs.Printing.{print-shape, print-form}
-
--- The word of a form.
-word-is : (w : List ℕ) (l : List Form) (f : Form) → form-of-word w l ≡ some f → w ≡ f .word
-unfolding form-of-word
-word-is w [] f e = none-some e
-word-is w (h ∷ l) f e = go (word-is w l f) (same-bytes w (h .word)) refl e
-  where
-    go : (form-of-word w l ≡ some f → w ≡ f .word) → (b : Bool) → same-bytes w (h .word) ≡ b → elim b as (λ _. Option Form) [ true ↦ some h | false ↦ form-of-word w l ] ≡ some f → w ≡ f .word
-    go ih true q r = same-eq w (h .word) q ∙ ap (λ (x : Form). x .word) (some-inj r)
-    go ih false q r = ih r
 
 -- No two forms of a list have the same kind.
 abbrev distinct : List Form → Bool

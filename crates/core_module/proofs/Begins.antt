@@ -14,6 +14,7 @@ use Rattle.terms.specs.Forms.{Shape, alone, with-name, with-numeral, binding, p
 use Rattle.terms.specs.TextForms.{text-forms}
 use Rattle.terms.specs.Tree.{Forest, nil, node, Tree, tree}
 use Rattle.terms.specs.Label.{Label, Declaration, trees}
+use Rattle.terms.proofs.FormTable.{word-is}
 use Rattle.surface.specs.Text.{text}
 use Rattle.surface.specs.Grammar.{Opens, Word}
 use Rattle.surface.specs.Reader.{Position, done, Reader}
@@ -21,7 +22,7 @@ use Rattle.surface.specs.Reading.{Beginning, leaf, frame, store, finish, severa
 use Rattle.surface.proofs.Steps.{no-done, after-elim, require-elim, done-inj, Took, token-done, atom-done, natural-done}
 use Rattle.core_text.specs.TextReading.{text-edition}
 use Rattle.core_module.specs.Statements.{BeginsAs}
-use Rattle.core_module.proofs.Forms.{word-is, its-kind, unnamed, no-name}
+use Rattle.core_module.proofs.Forms.{its-kind, unnamed, no-name}
 use Rattle.core_module.proofs.Again.{found-again}
 
 module _ (s : List ℕ) where

@@ -8,7 +8,6 @@ use lib.Dec.{eqb}
 use borrow.Author.Tests.{eqb-true}
 use Rattle.core_token.specs.CoreToken.{core-class}
 use Rattle.words.specs.Words.{same-bytes}
-use Rattle.words.proofs.Names.{same-eq}
 use Rattle.terms.specs.Forms.{Shape, alone, with-name, with-numeral, binding, plain, Form, forms, form-of-word, form-of-kind, has-atom, var-kind, global-kind, universe, ref}
 use Rattle.terms.specs.TextForms.{text-forms, unbound}
 use Rattle.terms.proofs.Names.{none-some, some-inj}
@@ -38,15 +37,6 @@ kind-is k (h ∷ l) f e = go (kind-is k l f) (eqb k (h .kind)) refl e
   where
     go : (form-of-kind k l ≡ some f → f .kind ≡ k) → (b : Bool) → eqb k (h .kind) ≡ b → elim b as (λ _. Option Form) [ true ↦ some h | false ↦ form-of-kind k l ] ≡ some f → f .kind ≡ k
     go ih true q e = let r : f ≡ h = sym (some-inj e) in ap (λ (x : Form). x .kind) r ∙ sym (eqb-true k (h .kind) q)
-    go ih false q e = ih e
-
-pub word-is : (w : List ℕ) (l : List Form) (f : Form) → form-of-word w l ≡ some f → w ≡ f .word
-unfolding form-of-word
-word-is w [] f e = none-some e
-word-is w (h ∷ l) f e = go (word-is w l f) (same-bytes w (h .word)) refl e
-  where
-    go : (form-of-word w l ≡ some f → w ≡ f .word) → (b : Bool) → same-bytes w (h .word) ≡ b → elim b as (λ _. Option Form) [ true ↦ some h | false ↦ form-of-word w l ] ≡ some f → w ≡ f .word
-    go ih true q e = same-eq w (h .word) q ∙ ap (λ (x : Form). x .word) (some-inj e)
     go ih false q e = ih e
 
 -- A form's word is an atom, by which it is found.

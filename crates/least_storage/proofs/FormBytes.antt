@@ -1,7 +1,7 @@
 -- What a term begins with, and the bytes of it: a leaf has three and more, and a form two and more before its arguments.
-use mathlib.Core.Path.{_≡_, refl, ap, _∙_, subst}
-use mathlib.Core.Bool.{Bool, true, false}
-use mathlib.Core.List.{List, [], _∷_}
+use mathlib.Core.Path.{_≡_, refl, subst}
+use mathlib.Core.Bool.{Bool, true}
+use mathlib.Core.List.{List}
 use mathlib.Core.Option.{Option, none, some}
 use Prim.Native.Nat.{ℕ, _+_, _≤_, _<_}
 use native.Mathlib.Omega.{arith}
@@ -11,11 +11,8 @@ use borrow.Author.Tests.{leb-true}
 use Rattle.token.specs.declared.TokenKind.{TokenKind}
 use Rattle.token.specs.declared.Token.{Token}
 use Rattle.token.specs.declared.Lexed.{Lexed}
-use Rattle.words.specs.Words.{same-bytes}
-use Rattle.words.proofs.Names.{same-eq}
 use Rattle.terms.specs.Forms.{Shape, alone, with-name, with-numeral, binding, plain, Form, forms, Edition, edition-0-1, form-of-word}
-use Rattle.terms.proofs.Names.{none-some, some-inj}
-use Rattle.terms.proofs.FormTable.{every, of-word}
+use Rattle.terms.proofs.FormTable.{every, of-word, word-is}
 use Rattle.surface.specs.Text.{text}
 use Rattle.surface.specs.Reader.{Position, Reader}
 use Rattle.surface.specs.Reading.{Beginning, leaf, frame, token, closing, atom, natural, name, bare, tagged, known, beginning-on, beginning}
@@ -41,17 +38,6 @@ pub record Fine (E : Edition) : Type 0 where
 pub fine-0-1 : Fine edition-0-1
 unfolding edition-0-1 forms
 fine-0-1 = record { tokens = spread; forms = refl }
-
--- A form is found by its word.
-word-of : (w : List ℕ) (l : List Form) (f : Form) → form-of-word w l ≡ some f → w ≡ f .word
-unfolding form-of-word
-word-of w [] f e = none-some e
-word-of w (h ∷ l) f e = go (same-bytes w (h .word)) refl (word-of w l f) e
-  where
-    go : (b : Bool) → same-bytes w (h .word) ≡ b → (form-of-word w l ≡ some f → w ≡ f .word)
-        → elim b as (λ _. Option Form) [ true ↦ some h | false ↦ form-of-word w l ] ≡ some f → w ≡ f .word
-    go true g ih e = same-eq w (h .word) g ∙ ap (λ (x : Form). x .word) (some-inj e)
-    go false g ih e = ih e
 
 -- The beginning of a term, from p to q. A leaf has a byte more where no atom stands; a form has with its n arguments, each of which has three
 -- bytes, and its closing parenthesis four bytes at least.
@@ -94,7 +80,7 @@ module _ (E : Edition) (F : Fine E) (s : List ℕ) where
   bare-comes p q t f alone c e a =
       let b : leb 3 (length (f .word)) ≡ true = subst (λ (x : Shape). fine-as x f ≡ true) c (of-word fine (text s t) (E .forms) f (F .forms) e) in
       let n : 3 ≤ length (f .word) = leb-true 3 (length (f .word)) b in
-      let m : t .start + length (f .word) ≤ t .end = text-bytes s (f .word) t (word-of (text s t) (E .forms) f e) (omega (arith, a .ahead .some)) in
+      let m : t .start + length (f .word) ≤ t .end = text-bytes s (f .word) t (word-is (text s t) (E .forms) f e) (omega (arith, a .ahead .some)) in
       let h = a .ahead in
       record { bytes = omega arith; more = λ g. let i : p .offset < t .start = a .later g in omega arith; high = omega arith; rows = h .rows }
   bare-comes p q t f with-name c e a = refl

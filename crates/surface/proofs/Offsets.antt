@@ -1,8 +1,7 @@
 -- Document 02, Req 01: the eighth words of the rows are where the terms begin.
 use mathlib.Core.Path.{_≡_, refl, sym, ap, _∙_, subst}
 use mathlib.Core.List.{List, [], _∷_, map}
-use mathlib.Core.Option.{Option, some}
-use mathlib.Core.Bool.{Bool, true, false}
+use mathlib.Core.Bool.{Bool, true}
 use Prim.Native.Nat.{ℕ, zero, suc, _-_}
 use native.Mathlib.Omega.{arith}
 use lib.ListN.{length, take, drop}
@@ -12,12 +11,11 @@ use Rattle.token.specs.declared.Lexed.the-variants.{Got}
 use Rattle.token.proofs.Parentheses.{open-here}
 use Rattle.words.specs.Words.{same-bytes}
 use Rattle.words.proofs.Names.{same-eq}
-use Rattle.terms.specs.Forms.{Shape, alone, with-name, with-numeral, binding, plain, Form, forms, Edition, edition-0-1, form-of-word, form-of-kind}
+use Rattle.terms.specs.Forms.{Shape, alone, with-name, with-numeral, binding, plain, Form, forms, Edition, edition-0-1, form-of-kind}
 use Rattle.terms.specs.Tree.{Forest}
 use Rattle.terms.specs.Label.{part, Label, Declaration}
 use Rattle.terms.specs.Offsets.{eighth-word, begins-with, first-bytes, TermsBegin, ModuleBegins}
-use Rattle.terms.proofs.Names.{none-some, some-inj}
-use Rattle.terms.proofs.FormTable.{every, of-word}
+use Rattle.terms.proofs.FormTable.{every, of-word, word-is}
 use Rattle.terms.proofs.Offsets.{surface-offsets, core-offsets}
 use Rattle.surface.specs.declared.Answer.the-variants.{Loaded}
 use Rattle.surface.specs.Text.{text}
@@ -28,16 +26,6 @@ use Rattle.surface.specs.SameCore.{Accepts}
 use Rattle.surface.specs.Statements.{RowsBegin, RowOffsets}
 use Rattle.surface.proofs.Acceptance.{is-read, is-loaded}
 use Rattle.surface.proofs.Demand.{stands}
-
--- A form's word is the one that it was found by.
-word-is : (w : List ℕ) (l : List Form) (f : Form) → form-of-word w l ≡ some f → w ≡ f .word
-unfolding form-of-word
-word-is w [] f e = none-some e
-word-is w (h ∷ l) f e = go (same-bytes w (h .word)) refl e (word-is w l f)
-  where
-    go : (b : Bool) → same-bytes w (h .word) ≡ b → elim b as (λ _. Option Form) [ true ↦ some h | false ↦ form-of-word w l ] ≡ some f → (form-of-word w l ≡ some f → w ≡ f .word) → w ≡ f .word
-    go true q e ih = same-eq w (h .word) q ∙ ap (λ (x : Form). x .word) (some-inj e)
-    go false q e ih = ih e
 
 -- What each form of an edition begins with is told by its kind.
 abbrev told : Form → Bool

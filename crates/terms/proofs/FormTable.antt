@@ -1,5 +1,5 @@
 -- The table of forms: what holds of each line holds of the form of a word and of a kind.
-use mathlib.Core.Path.{_≡_, refl, subst}
+use mathlib.Core.Path.{_≡_, refl, ap, _∙_, subst}
 use mathlib.Core.List.{List, [], _∷_, map}
 use mathlib.Core.Option.{Option, none, some}
 use mathlib.Core.Bool.{Bool, true, false, _&&_, cond, and-eq-true-iff}
@@ -8,6 +8,7 @@ use native.Mathlib.Omega.{arith}
 use lib.Dec.{leb, eqb}
 use borrow.Author.Tests.{leb-true}
 use Rattle.words.specs.Words.{ascii, same-bytes}
+use Rattle.words.proofs.Names.{same-eq}
 use Rattle.terms.specs.Forms.{Shape, alone, with-name, with-numeral, binding, plain, Form, forms, universe, ref, form-of-word, form-of-kind, arity-of, has-atom}
 use Rattle.terms.proofs.Names.{none-some, some-inj}
 
@@ -31,6 +32,16 @@ module _ (p : Form → Bool) where
   unfolding form-of-kind
   of-kind k [] f g e = none-some e
   of-kind k (h ∷ l) f g e = step h f l (form-of-kind k l) (eqb k (h .kind)) g (of-kind k l f) e
+
+-- A form's word is the one that it was found by.
+pub word-is : (w : List ℕ) (l : List Form) (f : Form) → form-of-word w l ≡ some f → w ≡ f .word
+unfolding form-of-word
+word-is w [] f e = none-some e
+word-is w (h ∷ l) f e = go (word-is w l f) (same-bytes w (h .word)) refl e
+  where
+    go : (form-of-word w l ≡ some f → w ≡ f .word) → (b : Bool) → same-bytes w (h .word) ≡ b → elim b as (λ _. Option Form) [ true ↦ some h | false ↦ form-of-word w l ] ≡ some f → w ≡ f .word
+    go ih true q e = same-eq w (h .word) q ∙ ap (λ (x : Form). x .word) (some-inj e)
+    go ih false q e = ih e
 
 -- No form has more than six arguments.
 all-small : every (λ f. leb (f .arity) 6) forms ≡ true
