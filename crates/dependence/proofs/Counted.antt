@@ -8,7 +8,7 @@ use lib.Dec.{eqb}
 use borrow.Author.Tests.{eqb-true, eq-eqb}
 use Rattle.terms.specs.Resolution.{CoreDeclaration}
 use Rattle.dependence.specs.Depends.{NumberedRow, type-rows, body-rows, kind-at, transparent, Among, Shows, by-type, by-body}
-use Rattle.dependence.specs.Deciding.{own-rows, counted-rows}
+use Rattle.dependence.specs.First.{own-rows, counted-rows}
 
 module _ (p r : ℕ) where
   pub among-left : (l k : List NumberedRow) → Among p r l → Among p r (l ++ k)
@@ -45,7 +45,15 @@ module _ (m : List CoreDeclaration) (k p r : ℕ) where
       subst (λ (b : Bool). Among p r (type-rows 0 m k ++ cond b (body-rows 0 m k) [])) (sym (eq-eqb (kind-at m k) transparent e))
       (among-right p r (type-rows 0 m k) (body-rows 0 m k) h)
 
-  -- A row that counts leads to what the named place shows, and is a row of the declaration.
+  -- A row that counts is a row of the declaration.
+  pub counted-own : Among p r (counted-rows m k) → Among p r (own-rows m k)
+  counted-own h = by (eqb (kind-at m k) transparent) h
+    where
+      by : (b : Bool) → Among p r (type-rows 0 m k ++ cond b (body-rows 0 m k) []) → Among p r (own-rows m k)
+      by true g = g
+      by false g = among-left p r (type-rows 0 m k) (body-rows 0 m k) (subst (Among p r) (append-nil (type-rows 0 m k)) g)
+
+  -- It leads to what the named place shows.
   pub through : (j : ℕ) → Among p r (counted-rows m k) → Shows m j p → Shows m j k
   through j h s = by (eqb (kind-at m k) transparent) refl h
     where

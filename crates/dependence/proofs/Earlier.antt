@@ -20,7 +20,7 @@ use Rattle.surface.specs.Loading.{Lengths, loading}
 use Rattle.surface.proofs.Shaped.{shaped}
 use Rattle.surface.proofs.Acceptance.{is-read, is-loaded}
 use Rattle.dependence.specs.Depends.{numbered-rows, GlobalRow, Among}
-use Rattle.dependence.specs.Deciding.{own-rows}
+use Rattle.dependence.specs.First.{own-rows}
 use Rattle.dependence.proofs.Numbered.{tree-rows, own-trees}
 use Rattle.dependence.proofs.Counted.{among-either}
 

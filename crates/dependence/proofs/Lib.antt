@@ -1,9 +1,9 @@
 pub mod Numbered
-pub mod Naming
 pub mod Counted
+pub mod Naming
 pub mod Earlier
-pub mod Marking
-pub mod Deciding
+pub mod Showing
+pub mod First
 pub mod Ranges
 pub mod Records
 pub mod Few

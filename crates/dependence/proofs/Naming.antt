@@ -1,10 +1,10 @@
 -- Rows that name a place which passes a test: the first that is found is the lowest of them.
 use mathlib.Core.Path.{_≡_, refl, sym, ap, _∙_, subst}
 use mathlib.Core.Logic.{inl, inr}
-use mathlib.Core.Bool.{Bool, true, false, and-eq-true-iff}
-use mathlib.Core.List.{List, [], _∷_, map}
+use mathlib.Core.Bool.{Bool, true, false, _&&_, and-eq-true-iff}
+use mathlib.Core.List.{List, [], _∷_, _++_, map}
 use mathlib.Core.Option.{Option, none, some}
-use Prim.Native.Nat.{ℕ, zero, suc, _≤_}
+use Prim.Native.Nat.{ℕ, zero, suc, _<_, _≤_}
 use native.Mathlib.Omega.{arith}
 use lib.Dec.{eqb}
 use borrow.Author.Tests.{eqb-true, eq-eqb}
@@ -14,8 +14,9 @@ use Rattle.terms.specs.Tree.{cells, next}
 use Rattle.terms.specs.Resolution.{CoreDeclaration}
 use Rattle.terms.specs.Rows.{core-row}
 use Rattle.dependence.specs.Depends.{NumberedRow, GlobalRow, Among}
-use Rattle.dependence.specs.Deciding.{own-rows, row-names, first-naming, is-found}
+use Rattle.dependence.specs.First.{own-rows, row-names, first-naming, is-found}
 use Rattle.dependence.proofs.Numbered.{number-from, consecutive, tree-rows, own-trees}
+use Rattle.dependence.proofs.Counted.{among-right}
 
 -- Row r is among some rows, is a global row, and names a place that passes the test.
 pub record Passes (p : ℕ → Bool) (r : ℕ) (l : List NumberedRow) : Type 0 where
@@ -44,6 +45,12 @@ among-from : (n : ℕ) (l : List NumberedRow) → From n l → (j r : ℕ) → A
 among-from n [] f j r h = absurd h
 among-from n (x ∷ l) f j r (inl h) = omega (arith, f .0, h .0)
 among-from n (x ∷ l) f j r (inr h) = omega (arith, f .0, among-from (suc (x .number)) l (f .1) j r h)
+
+-- Of rows that ascend, those in front have the lower numbers.
+pub front-lower : (n : ℕ) (l k : List NumberedRow) → From n (l ++ k) → (p q r t : ℕ) → Among p r l → Among q t k → r < t
+front-lower n [] k f p q r t a b = absurd a
+front-lower n (x ∷ l) k f p q r t (inl a) b = omega (arith, a .0, among-from (suc (x .number)) (l ++ k) (f .1) q t (among-right q t l k b))
+front-lower n (x ∷ l) k f p q r t (inr a) b = front-lower (suc (x .number)) l k (f .1) p q r t a b
 
 -- What is found: the lowest row that passes, or none where none does.
 pub record Lowest (p : ℕ → Bool) (l : List NumberedRow) (r : ℕ) : Type 0 where
@@ -112,3 +119,19 @@ module _ (p : ℕ → Bool) where
           → is-found (elim b as (λ _. Option ℕ) [ true ↦ some (x .number) | false ↦ first-naming p l ]) ≡ true
       go true e ih = refl
       go false e ih = ih (only-later p x l e r h)
+
+-- Tests that agree on what the rows name find the same row.
+names-same : (f g : ℕ → Bool) (w : List ℕ) → (GlobalRow (getD w 1 0) w → f (getD w 1 0) ≡ g (getD w 1 0)) → row-names f w ≡ row-names g w
+names-same f g w h = go (eqb (getD w 0 0) global-kind) refl
+  where
+    go : (b : Bool) → eqb (getD w 0 0) global-kind ≡ b → (b && f (getD w 1 0)) ≡ (b && g (getD w 1 0))
+    go true e = h (eqb-true _ _ e, refl)
+    go false e = refl
+
+pub first-same : (f g : ℕ → Bool) (l : List NumberedRow) → ((p r : ℕ) → Among p r l → f p ≡ g p) → first-naming f l ≡ first-naming g l
+unfolding first-naming
+first-same f g [] h = refl
+first-same f g (x ∷ l) h =
+    let e = names-same f g (x .words) (λ a. h (getD (x .words) 1 0) (x .number) (inl (refl, a))) in
+    let k = first-same f g l (λ p r a. h p r (inr a)) in
+    λ t. elim (e t) as (λ _. Option ℕ) [ true ↦ some (x .number) | false ↦ k t ]

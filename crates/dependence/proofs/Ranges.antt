@@ -12,7 +12,7 @@ use Rattle.terms.specs.Resolution.{Resolved, CoreDeclaration}
 use Rattle.terms.specs.Rows.{core-row, core-rows}
 use Rattle.terms.proofs.Cells.{next-cells}
 use Rattle.dependence.specs.Depends.{NumberedRow, numbered-rows, type-of, body-of, type-rows, body-rows, kind-at, transparent}
-use Rattle.dependence.specs.Deciding.{own-rows, counted-rows}
+use Rattle.dependence.specs.First.{own-rows, counted-rows}
 use Rattle.dependence.proofs.Numbered.{number-from, consecutive, type-then-body, tree-rows, own-trees}
 
 -- Of a module whose first row is n: the first row of declaration i, the row behind its rows, and the row behind those that count.

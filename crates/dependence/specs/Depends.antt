@@ -1,8 +1,9 @@
--- Document 02, Req 05, "Dependence goes through": which places a declaration shows, on which it depends, and by which rows.
+-- Document 02, Req 05, "Dependence goes through": which places a declaration shows, on which it depends, and by which rows; and Req 09, which
+-- of these a yes shows.
 use mathlib.Core.Path.{_≡_}
 use mathlib.Core.Logic.{_⊎_}
 use mathlib.Core.List.{List, [], _∷_, _++_}
-use Prim.Native.Nat.{ℕ, zero, suc}
+use Prim.Native.Nat.{ℕ, zero, suc, _≤_}
 use lib.ListN.{getD}
 use Rattle.terms.specs.Forms.{global-kind}
 use Rattle.terms.specs.Tree.{Forest, nil, node, next, roots}
@@ -73,3 +74,8 @@ Qualifies m i j r = (p : ℕ) × (Among p r (type-rows 0 m i) ⊎ Among p r (bod
 -- "Declaration i depends on j exactly if some global row .."
 abbrev pub Depends : List CoreDeclaration → ℕ → ℕ → Type 0
 Depends m i j = (r : ℕ) × Qualifies m i j r
+
+-- "the lowest-numbered row that qualifies under Req 05's rule"
+pub record LowestRow (m : List CoreDeclaration) (i j r : ℕ) : Type 0 where
+  pub qualifies : Qualifies m i j r
+  pub lowest : (q : ℕ) → Qualifies m i j q → r ≤ q

@@ -1,4 +1,4 @@
 pub mod Depends
+pub mod First
 pub mod Asks
-pub mod Deciding
 pub mod Statements

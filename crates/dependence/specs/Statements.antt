@@ -1,9 +1,11 @@
 -- Statements about the dependence question, each as a type; dependence/proofs/Statements.antt has a proof of each.
 use mathlib.Core.Path.{_≡_}
 use mathlib.Core.Logic.{_↔_, _⊎_}
-use mathlib.Core.Bool.{true}
+use mathlib.Core.Bool.{true, _||_}
 use mathlib.Core.List.{List, [], _∷_}
+use mathlib.Core.Option.{Option, none, some}
 use Prim.Native.Nat.{ℕ, _<_, _≤_}
+use lib.Dec.{eqb}
 use Rattle.terms.specs.Label.{Declaration}
 use Rattle.terms.specs.Resolution.{CoreDeclaration, resolve-module}
 use Rattle.surface.specs.Reader.{Position, start, Result, done, refused}
@@ -11,8 +13,8 @@ use Rattle.surface.specs.Tables.{Lengths, Tables, lengths}
 use Rattle.surface.specs.Reports.{Report, accepted, report-refusal}
 use Rattle.surface.specs.Loading.{loading}
 use Rattle.dependence.specs.declared.Dependence.{Dependence}
-use Rattle.dependence.specs.Depends.{type-rows, body-rows, Among, Shows, Qualifies, Depends}
-use Rattle.dependence.specs.Deciding.{decides-place, decides}
+use Rattle.dependence.specs.Depends.{type-rows, body-rows, Among, Shows, Qualifies, Depends, LowestRow}
+use Rattle.dependence.specs.First.{counted-rows, first-naming, is-found, shows, first-mention}
 use Rattle.dependence.specs.Asks.{asking, Asks, report-dependence}
 
 -- A core module is one that loading leaves, of some source with some tables.
@@ -30,25 +32,51 @@ ShowsUpwards = (m : List CoreDeclaration) → Accepted m → (j k : ℕ) → Sho
 abbrev pub DependsOnEarlier : Type 0
 DependsOnEarlier = (m : List CoreDeclaration) → Accepted m → (i j : ℕ) → Depends m i j → j < i
 
--- One pass over the places decides which of them show j, and what depends on it.
-abbrev pub PlaceDecided : Type 0
-PlaceDecided = (m : List CoreDeclaration) → Accepted m → (j k : ℕ) → (decides-place m j k ≡ true) ↔ Shows m j k
+-- The function of First follows the request's sentence without a word about steps, and is true exactly of what shows j.
+abbrev pub ShowsRule : Type 0
+ShowsRule = (m : List CoreDeclaration) → Accepted m → (j k : ℕ) → shows m j k ≡ (eqb k j || is-found (first-naming (shows m j) (counted-rows m k)))
 
-abbrev pub Decided : Type 0
-Decided = (m : List CoreDeclaration) → Accepted m → (i j : ℕ) → (decides m i j ≡ true) ↔ Depends m i j
+abbrev pub ShowsExactly : Type 0
+ShowsExactly = (m : List CoreDeclaration) → Accepted m → (j k : ℕ) → (shows m j k ≡ true) ↔ Shows m j k
+
+-- DOCUMENT 02, REQ 09: the first mention is the lowest-numbered row that qualifies, and there is none exactly if i does not depend on j.
+abbrev pub FirstExactly : Type 0
+FirstExactly = (m : List CoreDeclaration) → Accepted m → (i j r : ℕ) → (first-mention m i j ≡ some r) ↔ LowestRow m i j r
+
+abbrev pub NoneExactly : Type 0
+NoneExactly = (m : List CoreDeclaration) → Accepted m → (i j : ℕ) → (first-mention m i j ≡ none) ↔ (¬ Depends m i j)
+
+-- The same of any call that is not refused, with tables of any lengths: what each answer says, and that no other is given.
+abbrev pub Says : List CoreDeclaration → ℕ → ℕ → Dependence → Type 0
+Says m i j (Dependence.Yes r) = LowestRow m i j r
+Says m i j Dependence.No = ¬ Depends m i j
+Says m i j (Dependence.Refused r) = ⊥
+
+abbrev pub AnswersExactly : Type 0
+AnswersExactly =
+    (s : List ℕ) (i j : ℕ) (before : Tables) (a : Dependence) (after : Tables) → Asks s i j before a after
+    → (ds : List Declaration) (q : Position) → asking s (lengths before) i j start ≡ done ds q
+    → (b : Dependence) → (a ≡ b) ↔ Says (resolve-module s [] ds) i j b
+
+-- The rows of a type come before those of its body, so that one of the type is shown where one of each qualifies.
+abbrev pub TypeFirst : Type 0
+TypeFirst = (m : List CoreDeclaration) (i p q r t : ℕ) → Among p r (type-rows 0 m i) → Among q t (body-rows 0 m i) → r < t
 
 -- Direct mention, document 01's dependence, is a case of it: such a row qualifies.
 abbrev pub MentionQualifies : Type 0
 MentionQualifies = (m : List CoreDeclaration) (i j r : ℕ) → Among j r (type-rows 0 m i) ⊎ Among j r (body-rows 0 m i) → Qualifies m i j r
 
--- "The promises use that definition": the number and values of what a call of `depends` answers: 0 and a row that shows it, 0 and no value if
+-- "The promises use that definition": the number and values of what a call of `depends` answers: 0 and the row that shows it, 0 and no value if
 -- there is none, or the refusal.
-abbrev pub AskingReports : List ℕ → ℕ → ℕ → Result (List Declaration) → Report → Type 0
-AskingReports s i j (refused r) n = n ≡ report-refusal r
-AskingReports s i j (done ds p) n =
-    ((k : ℕ) × (n ≡ accepted (k ∷ [])) × Qualifies (resolve-module s [] ds) i j k) ⊎ ((n ≡ accepted []) × (Depends (resolve-module s [] ds) i j → ⊥))
+abbrev pub row-values : Option ℕ → List ℕ
+row-values none = []
+row-values (some r) = r ∷ []
+
+abbrev pub asking-reports : List ℕ → ℕ → ℕ → Result (List Declaration) → Report
+asking-reports s i j (refused r) = report-refusal r
+asking-reports s i j (done ds p) = accepted (row-values (first-mention (resolve-module s [] ds) i j))
 
 abbrev pub AskReports : Type 0
 AskReports =
     (s : List ℕ) (i j : ℕ) (before : Tables) (a : Dependence) (after : Tables) → Asks s i j before a after
-    → AskingReports s i j (asking s (lengths before) i j start) (report-dependence a)
+    → report-dependence a ≡ asking-reports s i j (asking s (lengths before) i j start)

@@ -13,9 +13,10 @@ use Rattle.terms.specs.Rows.{pad}
 use Rattle.tables.specs.Tables.{cleared}
 use Rattle.surface.specs.declared.Answer.{Answer}
 use Rattle.surface.specs.Reader.{Position, start, Result, done, refused, after, require, nowhere}
-use Rattle.surface.specs.Loading.{Lengths, loading, Outcome, outcome, load}
+use Rattle.surface.specs.Tables.{Lengths, Tables, tables, leaves}
+use Rattle.surface.specs.Loading.{loading, Outcome, outcome, load}
 use Rattle.dependence.specs.declared.Dependence.{Dependence}
-use Rattle.dependence.specs.Asks.{asking, ask, Answers}
+use Rattle.dependence.specs.Asks.{asking, answer-of, ask-outcome, ask}
 use Rattle.dependence.proofs.Few.{places-fit}
 use Rattle.loader.specs.Leaving.{leaving}
 use Rattle.loader.proofs.Cleared.{cleared-pad}
@@ -39,19 +40,12 @@ module _ (s : List ℕ) (z : Lengths) (i j : ℕ) where
     asked-outside h = asked ∙ ap (λ (b : Bool). after (require b (nowhere 12) q) (λ _. λ p. done ds p)) h
 
   -- What is promised of a call that answers a and leaves some tables.
-  pub record Asked (a : Dependence) (surface core declarations work : List ℕ) : Type 0 where
-    pub answers : Answers s i j (asking s z i j start) a
-    pub leaves : leaving (ask s z i j .answer) surface core declarations work ≡ ask s z i j
+  abbrev pub Asked : Dependence → List ℕ → List ℕ → List ℕ → List ℕ → Type 0
+  Asked a surface core declarations work = leaves a (tables surface core declarations work) ≡ ask s z i j
 
-  promised : (o : Result (List Declaration)) (a : Dependence) (x : Outcome) → asking s z i j start ≡ o → Answers s i j o a → x ≡ outcome s z o
-      → Asked a (x .tables .surface) (x .tables .core) (x .tables .declarations) (x .tables .work)
+  promised : (o : Result (List Declaration)) (a : Dependence) (t : Tables) → asking s z i j start ≡ o → a ≡ answer-of s i j o → t ≡ outcome s z o .tables → leaves a t ≡ ask s z i j
   unfolding ask
-  promised o a x e h f =
-      let g : x ≡ outcome s z (asking s z i j start) = f ∙ ap (outcome s z) (sym e) in
-      record {
-        answers = subst (λ (o : Result (List Declaration)). Answers s i j o a) (sym e) h;
-        leaves = λ k. leaving (outcome s z (asking s z i j start) .answer) (g k .tables .surface) (g k .tables .core) (g k .tables .declarations) (g k .tables .work);
-      }
+  promised o a t e h f = (λ k. leaves (h k) (f k)) ∙ ap (ask-outcome s i j z) (sym e)
 
   module _ (r : Answer) (surface core declarations work : List ℕ) (l : leaving r surface core declarations work ≡ load s z) where
     -- Loading refuses.
@@ -63,7 +57,7 @@ module _ (s : List ℕ) (z : Lengths) (i j : ℕ) where
         by (refused y) f h =
             let a : r ≡ Answer.Refused y = ap (λ (o : Outcome). o .answer) h in
             let g : x ≡ y = cc in
-            promised (refused y) (Dependence.Refused x) (leaving r surface core declarations work) (asked-refused y f) g h
+            promised (refused y) (Dependence.Refused x) (tables surface core declarations work) (asked-refused y f) (ap Dependence.Refused g) (ap (λ (o : Outcome). o .tables) h)
         by (done ds q) f h = absurd (let a : r ≡ Answer.Loaded (q .rows) (length ds) = ap (λ (o : Outcome). o .answer) h in let z : _≡_ {A = ℕ} 0 1 = cc in omega arith)
 
     module _ (rows count : ℕ) (e : r ≡ Answer.Loaded rows count) where
@@ -86,12 +80,11 @@ module _ (s : List ℕ) (z : Lengths) (i j : ℕ) where
               let room = places-fit s z ds q f in
               let g : marks-left core declarations j i work ≡ area s z ds q f j (z .work) room i =
               (λ k. marks-left (h k .tables .core) (h k .tables .declarations) j i (h k .tables .work)) ∙ looked-at s z ds q f j (z .work) room i hi hj in
-              let w = answered s z ds q f j (z .work) room i hi hj in
               let c : cleared (marks-left core declarations j i work) 0 ≡ pad (z .work) [] =
               cleared-pad (marks-left core declarations j i work) (z .work) _ g in
-              promised (done ds q) (shown-row core declarations (marks-left core declarations j i work) i) (leaving r surface core declarations (cleared (marks-left core declarations j i work) 0)) (asked-inside ds q f u)
-              (subst (Answers s i j (done ds q)) (sym (λ k. shown-row (h k .tables .core) (h k .tables .declarations) (g k) i)) w)
-              (λ k. leaving (a k) (h k .tables .surface) (h k .tables .core) (h k .tables .declarations) (c k))
+              promised (done ds q) _ _ (asked-inside ds q f u)
+              ((λ k. shown-row (h k .tables .core) (h k .tables .declarations) (g k) i) ∙ answered s z ds q f j (z .work) room i hi hj)
+              (λ k. tables (h k .tables .surface) (h k .tables .core) (h k .tables .declarations) (c k))
 
       -- One of them is none: "12 dependence asked of a place that is no declaration, nowhere, after loading", and every table is cleared.
       pub ask-outside : ltb i count && ltb j count ≡ false → Asked (Dependence.Refused (nowhere 12)) (cleared surface 0) (cleared core 0) (cleared declarations 0) (cleared work 0)
@@ -108,6 +101,4 @@ module _ (s : List ℕ) (z : Lengths) (i j : ℕ) where
               let c = cleared-pad core (z .core) _ (ap (λ (o : Outcome). o .tables .core) h) in
               let d = cleared-pad declarations (z .declarations) _ (ap (λ (o : Outcome). o .tables .declarations) h) in
               let g = cleared-pad work (z .work) _ (ap (λ (o : Outcome). o .tables .work) h) in
-              promised (refused (nowhere 12)) (Dependence.Refused (nowhere 12))
-              (leaving (Answer.Refused (nowhere 12)) (cleared surface 0) (cleared core 0) (cleared declarations 0) (cleared work 0)) (asked-outside ds q f u) refl
-              (λ k. leaving (Answer.Refused (nowhere 12)) (b k) (c k) (d k) (g k))
+              promised (refused (nowhere 12)) (Dependence.Refused (nowhere 12)) _ (asked-outside ds q f u) refl (λ k. tables (b k) (c k) (d k) (g k))

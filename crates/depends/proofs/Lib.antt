@@ -1,3 +1,4 @@
 pub mod Searching
+pub mod Marks
 pub mod Marking
 pub mod Asking

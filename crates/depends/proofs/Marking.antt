@@ -18,27 +18,24 @@ use Rattle.surface.specs.Reader.{Position, start, done}
 use Rattle.surface.specs.Loading.{Lengths, loading, outcome}
 use Rattle.surface.proofs.Acceptance.{is-read, is-loaded}
 use Rattle.rows.specs.DeclarationRows.{row-behind, first-row}
-use Rattle.dependence.specs.declared.Dependence.the-variants.{Yes, No}
-use Rattle.dependence.specs.Depends.{NumberedRow}
-use Rattle.dependence.specs.Deciding.{own-rows, counted-rows, row-names, first-naming, is-found, marked, marks, first-showing}
-use Rattle.dependence.specs.Asks.{Answers}
+use Rattle.dependence.specs.Depends.{NumberedRow, Among}
+use Rattle.dependence.specs.First.{own-rows, counted-rows, row-names, first-naming, is-found, shows, first-mention}
+use Rattle.dependence.specs.Asks.{shown}
+use Rattle.dependence.proofs.Naming.{first-same}
+use Rattle.dependence.proofs.Counted.{counted-own}
 use Rattle.dependence.proofs.Ranges.{first-of, behind-of, counted-behind, first-of-zero, first-is-behind, first-counted, counted-inside, behind-inside, range, own-range, own-counted, range-end, range-next}
 use Rattle.dependence.proofs.Records.{last-in-record, counted-in-record, count-resolved}
 use Rattle.dependence.proofs.Earlier.{Earlier, loaded-earlier}
-use Rattle.dependence.proofs.Marking.{length-marks, marks-store, marks-before}
-use Rattle.dependence.proofs.Deciding.{Shown, first-shown}
+use Rattle.dependence.proofs.Showing.{shows-rule}
 use Rattle.depends.specs.inner.Search as inner
-use Rattle.depends.specs.inner.Search.{names-marked, first-marked, shows-place, place-looked-at, places-looked-at, marks-left, shown-row}
+use Rattle.depends.specs.inner.Search.{marked, names-marked, first-marked, shows-place, place-looked-at, places-looked-at, marks-left, row-or-none, shown-row}
+use Rattle.depends.proofs.Marks.{marks, marked-is, marks-store, marks-before}
 
 -- Word j of row k in a table that has room for all rows.
 pub word-of-row : (w n : ℕ) (l : List (List ℕ)) → Wide w l → length l * w ≤ n → (k j : ℕ) → k < length l → j < w → k * w + j < n → getD (pad n (joined l)) (k * w + j) 0 ≡ getD (getD l k []) j 0
 word-of-row w n l h f k j a b c = getD-pad n (joined l) (k * w + j) c ∙ joined-at w l h k j a b
 
--- A row below `to`, or none.
-abbrev row-option : ℕ → ℕ → Option ℕ
-row-option to r = elim (ltb r to) as (λ _. Option ℕ) [ true ↦ some r | false ↦ none ]
-
-option-found : (to r : ℕ) → is-found (row-option to r) ≡ ltb r to
+option-found : (to r : ℕ) → is-found (row-or-none to r) ≡ ltb r to
 option-found to r = go (ltb r to)
   where
     go : (b : Bool) → is-found (elim b as (λ _. Option ℕ) [ true ↦ some r | false ↦ none ]) ≡ b
@@ -47,18 +44,18 @@ option-found to r = go (ltb r to)
 
 -- The search in some rows, where a core table has their words.
 module _ (core work : List ℕ) (rows : List (List ℕ)) (names : (k : ℕ) → k < length rows → names-marked core work k ≡ row-names (marked work) (getD rows k [])) where
-  found-at : (k to : ℕ) (b : Bool) (r : ℕ) (l : List NumberedRow) → row-names (marked work) (getD rows k []) ≡ b → k < to → (b ≡ false → first-naming (marked work) l ≡ row-option to r)
-      → first-naming (marked work) (record { number = k; words = getD rows k [] } ∷ l) ≡ row-option to (elim b as (λ _. ℕ) [ true ↦ k | false ↦ r ])
+  found-at : (k to : ℕ) (b : Bool) (r : ℕ) (l : List NumberedRow) → row-names (marked work) (getD rows k []) ≡ b → k < to → (b ≡ false → first-naming (marked work) l ≡ row-or-none to r)
+      → first-naming (marked work) (record { number = k; words = getD rows k [] } ∷ l) ≡ row-or-none to (elim b as (λ _. ℕ) [ true ↦ k | false ↦ r ])
   unfolding first-naming
   found-at k to b r l e h later =
       ap (λ (b : Bool). elim b as (λ _. Option ℕ) [ true ↦ some k | false ↦ first-naming (marked work) l ]) e ∙ go b later
     where
-      go : (b : Bool) → (b ≡ false → first-naming (marked work) l ≡ row-option to r)
-          → elim b as (λ _. Option ℕ) [ true ↦ some k | false ↦ first-naming (marked work) l ] ≡ row-option to (elim b as (λ _. ℕ) [ true ↦ k | false ↦ r ])
+      go : (b : Bool) → (b ≡ false → first-naming (marked work) l ≡ row-or-none to r)
+          → elim b as (λ _. Option ℕ) [ true ↦ some k | false ↦ first-naming (marked work) l ] ≡ row-or-none to (elim b as (λ _. ℕ) [ true ↦ k | false ↦ r ])
       go true later = sym (ap (λ (b : Bool). elim b as (λ _. Option ℕ) [ true ↦ some k | false ↦ none ]) (lt-ltb k to h))
       go false later = later refl
 
-  search-is : (n k to : ℕ) → to ≡ k + n → to ≤ length rows → first-naming (marked work) (range rows to k) ≡ row-option to (first-marked core work n k)
+  search-is : (n k to : ℕ) → to ≡ k + n → to ≤ length rows → first-naming (marked work) (range rows to k) ≡ row-or-none to (first-marked core work n k)
   unfolding first-naming first-marked
   search-is zero k to e h =
       ap (first-naming (marked work)) (range-end rows to k (omega arith))
@@ -122,15 +119,15 @@ module _ (s : List ℕ) (z : Lengths) (ds : List Declaration) (q : Position) (e 
       λ x. eqb (a x) 2 && marked work (core-word k 1 h (omega arith) x)
 
   range-is : (work : List ℕ) (from to : ℕ) → from ≤ to → to ≤ length (core-rows 0 m)
-      → first-naming (marked work) (range (core-rows 0 m) to from) ≡ row-option to (first-marked core work (to - from) from)
+      → first-naming (marked work) (range (core-rows 0 m) to from) ≡ row-or-none to (first-marked core work (to - from) from)
   range-is work from to f h = search-is core work (core-rows 0 m) (names-is work) (to - from) from to (omega arith) h
 
   own-found : (work : List ℕ) (i : ℕ) → i < length ds
-      → first-naming (marked work) (own-rows m i) ≡ row-option (row-behind records i) (first-marked core work (row-behind records i - first-row records i) (first-row records i))
+      → first-naming (marked work) (own-rows m i) ≡ row-or-none (row-behind records i) (first-marked core work (row-behind records i - first-row records i) (first-row records i))
   own-found work i h =
       ap (first-naming (marked work)) (own-range m i)
       ∙ range-is work (first-of 0 m i) (behind-of 0 m i) (omega (arith, first-counted 0 m i, counted-inside 0 m i)) (omega (arith, behind-inside 0 m i))
-      ∙ sym (λ x. row-option (behind-is i h x) (first-marked core work (behind-is i h x - first-is i h x) (first-is i h x)))
+      ∙ sym (λ x. row-or-none (behind-is i h x) (first-marked core work (behind-is i h x - first-is i h x) (first-is i h x)))
 
   counted-found : (work : List ℕ) (i : ℕ) → i < length ds
       → is-found (first-naming (marked work) (counted-rows m i)) ≡ ltb (first-marked core work (inner.counted-behind records i - first-row records i) (first-row records i)) (inner.counted-behind records i)
@@ -145,26 +142,16 @@ module _ (s : List ℕ) (z : Lengths) (ds : List Declaration) (q : Position) (e 
     abbrev pub area : ℕ → List ℕ
     area n = pad w (marks m j n)
 
-    -- A place is marked there exactly if it is in the list of marks.
-    same-mark : (n x : ℕ) → n ≤ w → marked (area n) x ≡ marked (marks m j n) x
-    same-mark n x h = go (ltb x w) refl
-      where
-        go : (b : Bool) → ltb x w ≡ b → marked (area n) x ≡ marked (marks m j n) x
-        go true g = ap (λ (k : ℕ). eqb k 1) (getD-pad w (marks m j n) x (ltb-true x w g))
-        go false g =
-            let out = ltb-false x w g in
-            let a : getD (area n) x 0 ≡ 0 = List·getD-eq-default (area n) 0 (omega (arith, length-pad w (marks m j n), out)) in
-            let b : getD (marks m j n) x 0 ≡ 0 = List·getD-eq-default (marks m j n) 0 (omega (arith, length-marks m j n, out)) in
-            ap (λ (k : ℕ). eqb k 1) (a ∙ sym b)
-
-    same-found : (n : ℕ) (l : List NumberedRow) → n ≤ w → first-naming (marked (area n)) l ≡ first-naming (marked (marks m j n)) l
-    same-found n l h = λ i. first-naming (λ x. same-mark n x h i) l
+    -- Rows that name places below n name marked ones exactly where these show j.
+    same-found : (n : ℕ) (l : List NumberedRow) → n ≤ w → ((p r : ℕ) → Among p r l → p < n) → first-naming (marked (area n)) l ≡ first-naming (shows m j) l
+    same-found n l h below = first-same (marked (area n)) (shows m j) l (λ p r a. marked-is m j w n p (below p r a) h)
 
     place-is : (n : ℕ) → n < length ds → place-looked-at core records j n (area n) ≡ area (suc n)
     unfolding place-looked-at shows-place
     place-is n h =
+        let found = same-found n (counted-rows m n) (omega arith) (λ p r a. earlier n p r (counted-own m n p r a)) in
         marks-store m j w n (omega arith) (shows-place core records (area n) n j)
-        (ap (λ (b : Bool). eqb n j || b) (sym (counted-found (area n) n h) ∙ ap is-found (same-found n (counted-rows m n) (omega arith))))
+        (ap (λ (b : Bool). eqb n j || b) (sym (counted-found (area n) n h) ∙ ap is-found found) ∙ sym (shows-rule m j earlier n))
 
     places-are : (n k : ℕ) → k + n ≤ length ds → places-looked-at core records j n k (area k) ≡ area (k + n)
     unfolding places-looked-at
@@ -183,24 +170,13 @@ module _ (s : List ℕ) (z : Lengths) (ds : List Declaration) (q : Position) (e 
           go : (b : Bool) → ltb i j ≡ b → marks-left core records j i (pad w []) ≡ area i
           go true g =
               let n : i - j ≡ 0 = omega (arith, ltb-true i j g) in
-              ap (λ (n : ℕ). places-looked-at core records j n j (pad w [])) n ∙ sym (marks-before m j earlier w i (omega (arith, ltb-true i j g)) (omega arith))
+              ap (λ (n : ℕ). places-looked-at core records j n j (pad w [])) n ∙ sym (marks-before m j w earlier i (omega (arith, ltb-true i j g)) (omega arith))
           go false g =
               let n : j + (i - j) ≡ i = omega (arith, ltb-false i j g) in
-              ap (places-looked-at core records j (i - j) j) (sym (marks-before m j earlier w j (omega arith) (omega arith)))
+              ap (places-looked-at core records j (i - j) j) (sym (marks-before m j w earlier j (omega arith) (omega arith)))
               ∙ places-are (i - j) j (omega (arith, ltb-false i j g)) ∙ ap area n
 
-      abbrev to : ℕ
-      to = row-behind records i
-
-      abbrev row : ℕ
-      row = first-marked core (area i) (to - first-row records i) (first-row records i)
-
-      -- The row that is shown then, or that there is none, is what the definition asks for.
-      pub answered : Answers s i j (done ds q) (shown-row core records (area i) i)
-      unfolding shown-row first-showing
-      answered =
-          go (ltb row to) (subst (Shown m earlier i j) (sym (same-found i (own-rows m i) (omega arith)) ∙ own-found (area i) i hi) (first-shown m earlier i j))
-        where
-          go : (b : Bool) → Shown m earlier i j (elim b as (λ _. Option ℕ) [ true ↦ some row | false ↦ none ]) → Answers s i j (done ds q) (elim b [ true ↦ Yes row | false ↦ No ])
-          go true h = h
-          go false h = h
+      -- The row that is shown then, or that there is none, is what the definition gives.
+      pub answered : shown-row core records (area i) i ≡ shown (first-mention m i j)
+      unfolding shown-row first-mention
+      answered = ap shown (sym (own-found (area i) i hi) ∙ same-found i (own-rows m i) (omega arith) (earlier i))

@@ -2,6 +2,7 @@
 use mathlib.Core.Path.{_≡_, refl, sym, ap, _∙_}
 use mathlib.Core.Bool.{Bool, true, false, _&&_, _||_, cond}
 use mathlib.Core.List.{List}
+use mathlib.Core.Option.{Option, none, some}
 use Prim.Native.Nat.{ℕ, suc, _+_, _-_, _*_, _/_, _<_, _≤_}
 use native.Mathlib.Omega.{arith}
 use lib.Dec.{ltb}
@@ -9,10 +10,10 @@ use lib.ListN.{length, getD, set, length-set, List·getD-eq-default}
 use lib.Seq.{set-out}
 use borrow.Author.Tests.{eq-eqb, ne-eqb, lt-ltb, le-ltb}
 use Rattle.rows.specs.DeclarationRows.{row-behind, first-row}
-use Rattle.dependence.specs.Deciding.{marked}
 use Rattle.dependence.specs.declared.Dependence.{Dependence}
 use Rattle.dependence.specs.declared.Dependence.the-variants.{Yes, No}
-use Rattle.depends.specs.inner.Search.{names-marked, first-marked, counted-behind, shows-place, place-looked-at, places-looked-at, row-or-none, shown-row}
+use Rattle.dependence.specs.Asks.{shown}
+use Rattle.depends.specs.inner.Search.{marked, names-marked, first-marked, counted-behind, shows-place, place-looked-at, places-looked-at, row-or-none, shown-row}
 
 -- By the two words of a row.
 module _ (core work : List ℕ) (k : ℕ) where
@@ -121,12 +122,15 @@ module _ (core declarations : List ℕ) (j to k : ℕ) (work : List ℕ) where
 
 -- The row that is shown.
 module _ (core declarations work : List ℕ) (i from to r : ℕ) (e : from ≡ first-row declarations i) (f : to ≡ row-behind declarations i) (g : r ≡ first-marked core work (to - from) from) where
-  pub shown-is : row-or-none to r ≡ shown-row core declarations work i
+  shown-is : shown (row-or-none to r) ≡ shown-row core declarations work i
   unfolding shown-row
-  shown-is = ap (row-or-none to) g ∙ (λ x. row-or-none (f x) (first-marked core work (f x - e x) (e x)))
+  shown-is = ap (λ (x : ℕ). shown (row-or-none to x)) g ∙ (λ x. shown (row-or-none (f x) (first-marked core work (f x - e x) (e x))))
+
+  abbrev shown-if : Bool → Dependence
+  shown-if b = shown (elim b as (λ _. Option ℕ) [ true ↦ some r | false ↦ none ])
 
   pub shown-yes : r < to → Yes r ≡ shown-row core declarations work i
-  shown-yes h = sym (ap (λ (b : Bool). elim b as (λ _. Dependence) [ true ↦ Yes r | false ↦ No ]) (lt-ltb r to h)) ∙ shown-is
+  shown-yes h = sym (ap shown-if (lt-ltb r to h)) ∙ shown-is
 
   pub shown-no : to ≤ r → No ≡ shown-row core declarations work i
-  shown-no h = sym (ap (λ (b : Bool). elim b as (λ _. Dependence) [ true ↦ Yes r | false ↦ No ]) (le-ltb r to h)) ∙ shown-is
+  shown-no h = sym (ap shown-if (le-ltb r to h)) ∙ shown-is

@@ -12,7 +12,7 @@ use Rattle.terms.proofs.Widths.{wide-records, count-records}
 use Rattle.elaborate.proofs.ResolvedTrees.{records-kept}
 use Rattle.surface.specs.Reader.{Position, Result, done, refused}
 use Rattle.surface.specs.Tables.{Lengths, Tables, tables, Left, leaves}
-use Rattle.surface.specs.Loading.{outcome}
+use Rattle.surface.specs.Loading.{Outcome, outcome}
 use Rattle.loader.specs.Parsed.{parsed}
 use Rattle.printing.specs.declared.Printed.{Printed}
 use Rattle.printing.specs.PrintCall.{print-outcome}
@@ -46,7 +46,7 @@ read-words (done ds p) = joined (read-records 0 ds)
 records-long : (s : List ℕ) (ds : List Declaration) → length (joined (declaration-records 0 (resolve-module s [] ds))) ≡ length ds * 5
 records-long s ds = length-joined 5 (declaration-records 0 (resolve-module s [] ds)) (wide-records 0 (resolve-module s [] ds)) ∙ ap (λ (n : ℕ). n * 5) (count-records s [] 0 ds)
 
--- Loading, and a question that loads first.
+-- Loading.
 pub outcome-makes : (s : List ℕ) → Makes (outcome s) (resolved-words s)
 outcome-makes s = record { declared = declared; all-else = all-else; none-long = λ r. refl; long = λ ds p. records-long s ds }
   where
@@ -57,6 +57,15 @@ outcome-makes s = record { declared = declared; all-else = all-else; none-long =
     all-else : (z : Lengths) (d : ℕ) (t : List ℕ) (r : Result (List Declaration)) → declaring t (outcome s (with-words z d) r) ≡ declaring t (outcome s z r)
     all-else z d t (refused x) = refl
     all-else z d t (done ds p) = refl
+
+-- A question that loads first, and answers by what was loaded.
+pub asked-makes : {A : Type 0} (s : List ℕ) (answer : Result (List Declaration) → A) → Makes (λ z r. leaves (answer r) (outcome s z r .tables)) (resolved-words s)
+asked-makes s answer = record {
+  declared = outcome-makes s .declared;
+  all-else = λ z d t r. ap (λ (o : Outcome). leaves (answer r) (o .tables)) (outcome-makes s .all-else z d t r);
+  none-long = outcome-makes s .none-long;
+  long = outcome-makes s .long;
+}
 
 -- Reading alone.
 pub parsed-makes : Makes parsed read-words

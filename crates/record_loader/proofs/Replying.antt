@@ -12,7 +12,7 @@ use Rattle.surface.specs.declared.Answer.{Answer}
 use Rattle.surface.specs.Reader.{start, Result}
 use Rattle.surface.specs.Tables.{Lengths, Tables, tables, lengths, Left, leaves}
 use Rattle.surface.specs.Loading.{Outcome, outcome, parsing, loading, load}
-use Rattle.dependence.specs.Asks.{asking, ask, Answers}
+use Rattle.dependence.specs.Asks.{asking, answer-of, ask-outcome, ask}
 use Rattle.binding.specs.Binds as Binds
 use Rattle.loader.specs.Parsed.{parsed, parse}
 use Rattle.printing.specs.PrintCall.{PrintLeft, printing, print, print-leaves}
@@ -24,7 +24,7 @@ use Rattle.record_loader.specs.declared.Question.{Question}
 use Rattle.record_loader.specs.declared.Reply.{Reply}
 use Rattle.record_loader.specs.Recorded.{list-words, front}
 use Rattle.record_loader.specs.Replies.{loaded-of, parsed-of, dependence-of, bound-of, printed-of, read-of, Besides, Answered, Replies}
-use Rattle.record_loader.proofs.Enough.{Makes, outcome-makes, parsed-makes, printed, printed-makes, listed}
+use Rattle.record_loader.proofs.Enough.{Makes, outcome-makes, asked-makes, parsed-makes, printed, printed-makes, listed}
 use Rattle.record_loader.proofs.Lists.{front-records, fit-records}
 use Rattle.record_loader.proofs.Room.{with-words}
 use Rattle.record_loader.proofs.Settling.{Settles, parsing-settles, loading-settles, asking-settles, answering, left-is, answering-settles, printing-settles, settled}
@@ -96,10 +96,7 @@ module _ (s surface core words words₁ work : List ℕ) (list : List Declaratio
         let z = lent [] [] in (carried z (λ d. parsing s (with-words z d) start) (parsing-settles s z) parsed _ parsed-makes (parsed-of r) surface₁ [] work₁ (h .0), h .1, h .2)
     answered (Question.Depends i j) h =
         let z = lent core [] in
-        let Q : ℕ → Result (List D.Declaration) = λ d. asking s (with-words z d) i j start in
-        let k = carried z Q (asking-settles s i j z) (outcome s) _ (outcome-makes s) _ surface₁ core₁ work₁ (h .0 .1) in
-        let after : Tables = tables surface₁ core₁ (list-words (records-of words₁ n)) work₁ in
-        ((subst (λ x. Answers s i j x (dependence-of r)) (same-result z Q (asking-settles s i j z)) (h .0 .0), ap (λ x. leaves x after) (sym (ap (λ (o : Left _ Tables). o .answer) k)) ∙ k), h .1)
+        (carried z (λ d. asking s (with-words z d) i j start) (asking-settles s i j z) (ask-outcome s i j) _ (asked-makes s (answer-of s i j)) (dependence-of r) surface₁ core₁ work₁ (h .0), h .1)
     answered (Question.Binder k) h =
         let z = lent core [] in
         let b = bound-of r in

@@ -13,7 +13,7 @@ use Rattle.surface.specs.SameCore.{row-count, declaration-count, SameCore, Acce
 use Rattle.surface.specs.Agreement.{Agreement}
 use Rattle.dependence.specs.Asks.{asking, report-dependence}
 use Rattle.surface.specs.Statements.{RowsBegin, loading-reports}
-use Rattle.dependence.specs.Statements.{AskingReports}
+use Rattle.dependence.specs.Statements.{asking-reports}
 use Rattle.binding.specs.Binds.{report-binding}
 use Rattle.binding.specs.Statements.{BindingReports}
 use Rattle.loader.specs.Parsed.{report-read}
@@ -87,7 +87,7 @@ report-reply (Reply.Read a) = report a
 abbrev pub ReplyingReports : List ℕ → Question → Tables → List ℕ → Report → Type 0
 ReplyingReports s Question.Load before text n = n ≡ loading-reports (loading s (lengths before) start)
 ReplyingReports s Question.Parse before text n = n ≡ loading-reports (parsing s (lengths (without-core before)) start)
-ReplyingReports s (Question.Depends i j) before text n = AskingReports s i j (asking s (lengths before) i j start) n
+ReplyingReports s (Question.Depends i j) before text n = n ≡ asking-reports s i j (asking s (lengths before) i j start)
 ReplyingReports s (Question.Binder k) before text n = BindingReports s k (loading s (lengths before) start) n
 ReplyingReports s Question.Print before text n = n ≡ report-printed (print s (lengths before) (length text) .answer)
 ReplyingReports s Question.ReadCore before text n = n ≡ loading-reports (reading-text s (lengths (for-text before)) start)

@@ -1,10 +1,8 @@
 -- `depends::depends` meets its contract.
-use mathlib.Core.Path.{sym, _∙_, subst}
-use Rattle.token.specs.declared.Refusal.{Refusal}
-use Rattle.surface.specs.Reader.{start}
+use mathlib.Core.Path.{sym, ap, _∙_}
+use Rattle.surface.specs.Tables.{tables, leaves}
 use Rattle.dependence.specs.declared.Dependence.{Dependence}
-use Rattle.dependence.specs.Asks.{asking, ask, Answers}
-use Rattle.loader.specs.Leaving.{lengths-of, leaving}
+use Rattle.loader.specs.Leaving.{lengths-of}
 use Rattle.depends.proofs.Asking.{ask-refused, ask-inside, ask-outside}
 use borrow.Author.Needs.{needs}
 use Rattle.depends.proofs.depends.Statement.{statement}
@@ -47,10 +45,8 @@ returns c =
     let m = c .before .before .before .before .before .before .before .before .before .loaded2 .given in
     let f = c .before .before .find-dependence .ensures in
     let z = lengths-of (a .surface .now) (a .core .now) (a .declarations .now) (a .work .now) in
-    let w = ask-inside (a .s .now) z (a .i) (a .j) (k .result) (k .last .1 .0) (k .last .1 .1 .0) (k .last .1 .1 .1 .0) (k .last .1 .1 .1 .1 .0) (k .ensures) (m .0 .0) (m .0 .1 .0) (m .1) (sym (c .before .before .before .before .before .before .before .are-places .ensures) ∙ search needs) in (
-      subst (Answers (a .s .now) (a .i) (a .j) (asking (a .s .now) z (a .i) (a .j) start)) (sym (f .0)) (w .answers),
-      (λ x. leaving (ask (a .s .now) z (a .i) (a .j) .answer) (k .last .1 .0) (k .last .1 .1 .0) (k .last .1 .1 .1 .0) (f .1 x)) ∙ w .leaves,
-    )
+    (λ x. leaves (f .0 x) (tables (k .last .1 .0) (k .last .1 .1 .0) (k .last .1 .1 .1 .0) (f .1 x)))
+    ∙ ask-inside (a .s .now) z (a .i) (a .j) (k .result) (k .last .1 .0) (k .last .1 .1 .0) (k .last .1 .1 .1 .0) (k .last .1 .1 .1 .1 .0) (k .ensures) (m .0 .0) (m .0 .1 .0) (m .1) (sym (c .before .before .before .before .before .before .before .are-places .ensures) ∙ search needs)
 
 clear-all-requires : tie.Need-clear-all-requires
 clear-all-requires c κs = search needs
@@ -75,8 +71,8 @@ returns-2 c =
     let a = c .before .before .before .before .before .before .before .before .before .before .before .before .before .before .before .before .before .before .before .before .before .before .args in
     let k = c .before .before .before .before .before .before .before .before .before .before .before .before .load in
     let m = c .before .before .loaded .given in
-    let w = ask-refused (a .s .now) (lengths-of (a .surface .now) (a .core .now) (a .declarations .now) (a .work .now)) (a .i) (a .j) (k .result) (k .last .1 .0) (k .last .1 .1 .0) (k .last .1 .1 .1 .0) (k .last .1 .1 .1 .1 .0) (k .ensures) (m .0 .0) (m .1) in
-    (subst (Answers (a .s .now) (a .i) (a .j) (asking (a .s .now) (lengths-of (a .surface .now) (a .core .now) (a .declarations .now) (a .work .now)) (a .i) (a .j) start)) (sym (c .refused-by-loading .ensures)) (w .answers), w .leaves)
+    ap (λ (d : Dependence). leaves d (tables (k .last .1 .0) (k .last .1 .1 .0) (k .last .1 .1 .1 .0) (k .last .1 .1 .1 .1 .0))) (c .refused-by-loading .ensures)
+    ∙ ask-refused (a .s .now) (lengths-of (a .surface .now) (a .core .now) (a .declarations .now) (a .work .now)) (a .i) (a .j) (k .result) (k .last .1 .0) (k .last .1 .1 .0) (k .last .1 .1 .1 .0) (k .last .1 .1 .1 .1 .0) (k .ensures) (m .0 .0) (m .1)
 
 same-length-9 : tie.Need-same-length-9
 same-length-9 c = search needs
@@ -96,10 +92,9 @@ returns-3 c =
     let k = c .before .before .before .before .before .before .before .before .before .before .before .before .before .before .before .before .before .before .before .before .before .before .before .before .before .before .before .load in
     let m = c .before .before .before .before .before .before .before .before .before .before .before .before .before .before .before .before .before .loaded2 .given in
     let z = c .before .before .before .before .before .before .before .before .before .clear-all .ensures in
-    let w = ask-outside (a .s .now) (lengths-of (a .surface .now) (a .core .now) (a .declarations .now) (a .work .now)) (a .i) (a .j) (k .result) (k .last .1 .0) (k .last .1 .1 .0) (k .last .1 .1 .1 .0) (k .last .1 .1 .1 .1 .0) (k .ensures) (m .0 .0) (m .0 .1 .0) (m .1) (sym (c .before .before .before .before .before .before .before .before .before .before .before .before .before .before .before .are-places .ensures) ∙ search needs) in (
-      subst (λ (r : Refusal). Answers (a .s .now) (a .i) (a .j) (asking (a .s .now) (lengths-of (a .surface .now) (a .core .now) (a .declarations .now) (a .work .now)) (a .i) (a .j) start) (Dependence.Refused r)) (sym (c .nowhere-12 .ensures)) (w .answers),
-      (λ x. leaving (ask (a .s .now) (lengths-of (a .surface .now) (a .core .now) (a .declarations .now) (a .work .now)) (a .i) (a .j) .answer) (z .0 x) (z .1 .0 x) (z .1 .1 .0 x) (z .1 .1 .1 x)) ∙ w .leaves,
-    )
+    let n = c .nowhere-12 .ensures in
+    (λ x. leaves (Dependence.Refused (n x)) (tables (z .0 x) (z .1 .0 x) (z .1 .1 .0 x) (z .1 .1 .1 x)))
+    ∙ ask-outside (a .s .now) (lengths-of (a .surface .now) (a .core .now) (a .declarations .now) (a .work .now)) (a .i) (a .j) (k .result) (k .last .1 .0) (k .last .1 .1 .0) (k .last .1 .1 .1 .0) (k .last .1 .1 .1 .1 .0) (k .ensures) (m .0 .0) (m .0 .1 .0) (m .1) (sym (c .before .before .before .before .before .before .before .before .before .before .before .before .before .before .before .are-places .ensures) ∙ search needs)
 
 pub depends-spec : {M : Type 1} → statement M
 depends-spec =

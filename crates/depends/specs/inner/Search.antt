@@ -1,13 +1,17 @@
 -- How places are marked in a work area, and rows that name a marked place searched, in a core table and a declaration list.
 use mathlib.Core.Bool.{Bool, true, false, _&&_, _||_, cond}
 use mathlib.Core.List.{List}
+use mathlib.Core.Option.{Option, none, some}
 use Prim.Native.Nat.{ℕ, zero, suc, _+_, _-_, _*_}
 use lib.Dec.{eqb, ltb}
 use lib.ListN.{getD, set}
 use Rattle.rows.specs.DeclarationRows.{row-behind, first-row}
-use Rattle.dependence.specs.Deciding.{marked}
 use Rattle.dependence.specs.declared.Dependence.{Dependence}
-use Rattle.dependence.specs.declared.Dependence.the-variants.{Yes, No}
+use Rattle.dependence.specs.Asks.{shown}
+
+-- Whether place k is marked: a mark is 1, and there is none behind the table.
+abbrev pub marked : List ℕ → ℕ → Bool
+marked work k = eqb (getD work k 0) 1
 
 -- Whether row k of a core table is a global row that names a marked place.
 unfoldable pub names-marked : List ℕ → List ℕ → ℕ → Bool
@@ -42,11 +46,11 @@ abbrev pub marks-left : List ℕ → List ℕ → ℕ → ℕ → List ℕ → L
 marks-left core declarations j to work = places-looked-at core declarations j (to - j) j work
 
 -- A row below `to`, or none.
-abbrev pub row-or-none : ℕ → ℕ → Dependence
-row-or-none to r = elim (ltb r to) [ true ↦ Yes r | false ↦ No ]
+abbrev pub row-or-none : ℕ → ℕ → Option ℕ
+row-or-none to r = elim (ltb r to) as (λ _. Option ℕ) [ true ↦ some r | false ↦ none ]
 
--- A row among those of declaration i.
+-- The first row among those of declaration i, as an answer.
 unfoldable pub shown-row : List ℕ → List ℕ → List ℕ → ℕ → Dependence
 shown-row core declarations work i =
-    row-or-none (row-behind declarations i)
-    (first-marked core work (row-behind declarations i - first-row declarations i) (first-row declarations i))
+    shown (row-or-none (row-behind declarations i)
+    (first-marked core work (row-behind declarations i - first-row declarations i) (first-row declarations i)))
