@@ -7,7 +7,7 @@ use Rattle.terms.specs.Label.{Declaration}
 use Rattle.terms.specs.Rows.{pad}
 use Rattle.surface.specs.Reader.{start, Result, done, refused}
 use Rattle.surface.specs.Sizes.{deepest}
-use Rattle.surface.specs.Tables.{ample, leaves}
+use Rattle.surface.specs.Tables.{ample, Left, leaves}
 use Rattle.surface.specs.Reports.{Report, accepted, report-refusal}
 use Rattle.surface.specs.Loading.{parsing}
 use Rattle.least_storage.specs.declared.Storage.{Storage}
@@ -24,9 +24,13 @@ needed (refused r) = Refused r
 unfoldable pub storage : List ℕ → ℕ → Storage
 storage s work = needed (parsing s (ample s work) start)
 
--- The promise of `storage`: a call for the source s, with such a work area before it, gives this answer and leaves the area 0.
+-- What a call of `storage` leaves: its answer, and the work area 0.
+abbrev pub storage-left : List ℕ → ℕ → Left Storage (List ℕ)
+storage-left s work = leaves (storage s work) (pad work [])
+
+-- The promise of `storage`: a call for the source s, with such a work area before it, gives this answer and leaves this area.
 abbrev pub Stores : List ℕ → List ℕ → Storage → List ℕ → Type 0
-Stores s before answer after = leaves answer after ≡ leaves (storage s (length before)) (pad (length before) [])
+Stores s before answer after = leaves answer after ≡ storage-left s (length before)
 
 -- The number and values of the answer: the rows, the declarations and the open frames.
 abbrev pub report-storage : Storage → Report

@@ -2,12 +2,13 @@
 use reports::report_loaded;
 use reports::report_printed;
 use reports::tell;
+ghost use mathlib.Core.Path.{_≡_};
 ghost use mathlib.Core.List.{[]};
-ghost use Rattle.surface.specs.Tables.{tables};
+ghost use Rattle.surface.specs.Tables.{tables, lengths};
 ghost use Rattle.surface.specs.Reports.{report};
 ghost use Rattle.printing.specs.PrintCall.{report-printed, Prints};
-ghost use Rattle.core_module.specs.CoreText.{ReadsCore, ReadsCanonical};
-ghost use Rattle.reports.specs.Numbers.{Told};
+ghost use Rattle.core_module.specs.CoreText.{read-core, read-canonical};
+ghost use Rattle.reports.specs.Numbers.{tells, telling, Told};
 
 // Loads a source and writes its core text into `text`. The value is the text's length, or the offset of a refusal that has one. `answer`
 // takes three numbers.
@@ -42,7 +43,10 @@ pub extern "C" fn sulyterom_read_core(
     work: &mut [u32],
     answer: &mut [u64],
 ) -> u8
-    ensures { λ r. ⌜ Told (λ a. ReadsCore (now (text .entry)) (tables [] (now (core .entry)) (now (declarations .entry)) (now (work .entry))) a (tables [] (now (core .exit)) (now (declarations .exit)) (now (work .exit)))) report 3 (now (answer .entry)) r (now (answer .exit)) ⌝ }
+    ensures { λ r. ⌜
+        tells r (now (answer .exit)) (tables [] (now (core .exit)) (now (declarations .exit)) (now (work .exit)))
+        ≡ telling report 3 (now (answer .entry)) (read-core (now (text .entry)) (lengths (tables [] (now (core .entry)) (now (declarations .entry)) (now (work .entry)))))
+        ⌝ }
 {
     let read = core_loader::read_core(text, core, declarations, work);
     let numbers = report_loaded(read);
@@ -58,7 +62,10 @@ pub extern "C" fn sulyterom_read_canonical(
     work: &mut [u32],
     answer: &mut [u64],
 ) -> u8
-    ensures { λ r. ⌜ Told (λ a. ReadsCanonical (now (text .entry)) (tables [] (now (core .entry)) (now (declarations .entry)) (now (work .entry))) a (tables [] (now (core .exit)) (now (declarations .exit)) (now (work .exit)))) report 3 (now (answer .entry)) r (now (answer .exit)) ⌝ }
+    ensures { λ r. ⌜
+        tells r (now (answer .exit)) (tables [] (now (core .exit)) (now (declarations .exit)) (now (work .exit)))
+        ≡ telling report 3 (now (answer .entry)) (read-canonical (now (text .entry)) (lengths (tables [] (now (core .entry)) (now (declarations .entry)) (now (work .entry)))))
+        ⌝ }
 {
     let read = core_loader::read_canonical(text, core, declarations, work);
     let numbers = report_loaded(read);

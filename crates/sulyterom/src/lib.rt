@@ -7,12 +7,13 @@ pub mod texts;
 use reports::report_loaded;
 use reports::report_read;
 use reports::tell;
+ghost use mathlib.Core.Path.{_≡_};
 ghost use mathlib.Core.List.{[]};
-ghost use Rattle.surface.specs.Tables.{tables};
+ghost use Rattle.surface.specs.Tables.{tables, lengths};
 ghost use Rattle.surface.specs.Reports.{report};
-ghost use Rattle.surface.specs.Loading.{Loads};
-ghost use Rattle.loader.specs.Parsed.{report-read, Parses};
-ghost use Rattle.reports.specs.Numbers.{Told};
+ghost use Rattle.surface.specs.Loading.{load};
+ghost use Rattle.loader.specs.Parsed.{parse, report-read};
+ghost use Rattle.reports.specs.Numbers.{tells, telling};
 
 // Loads a source. The values are the counts of rows and declarations, or the offset of a refusal that has one. `answer` takes three numbers.
 #[no_mangle]
@@ -25,10 +26,8 @@ pub extern "C" fn sulyterom_load(
     answer: &mut [u64],
 ) -> u8
     ensures { λ r. ⌜
-        Told (λ a. Loads (now (source .entry))
-        (tables (now (surface .entry)) (now (core .entry)) (now (declarations .entry)) (now (work .entry))) a
-        (tables (now (surface .exit)) (now (core .exit)) (now (declarations .exit)) (now (work .exit)))) report 3 (now
-        (answer .entry)) r (now (answer .exit))
+        tells r (now (answer .exit)) (tables (now (surface .exit)) (now (core .exit)) (now (declarations .exit)) (now (work .exit)))
+        ≡ telling report 3 (now (answer .entry)) (load (now (source .entry)) (lengths (tables (now (surface .entry)) (now (core .entry)) (now (declarations .entry)) (now (work .entry)))))
         ⌝ }
 {
     let loaded = loader::load(source, surface, core, declarations, work);
@@ -45,7 +44,10 @@ pub extern "C" fn sulyterom_parse(
     work: &mut [u32],
     answer: &mut [u64],
 ) -> u8
-    ensures { λ r. ⌜ Told (λ a. Parses (now (source .entry)) (tables (now (surface .entry)) [] (now (declarations .entry)) (now (work .entry))) a (tables (now (surface .exit)) [] (now (declarations .exit)) (now (work .exit)))) report-read 3 (now (answer .entry)) r (now (answer .exit)) ⌝ }
+    ensures { λ r. ⌜
+        tells r (now (answer .exit)) (tables (now (surface .exit)) [] (now (declarations .exit)) (now (work .exit)))
+        ≡ telling report-read 3 (now (answer .entry)) (parse (now (source .entry)) (lengths (tables (now (surface .entry)) [] (now (declarations .entry)) (now (work .entry)))))
+        ⌝ }
 {
     let read = loader::parse_surface(source, surface, declarations, work);
     let numbers = report_read(read);

@@ -3,13 +3,15 @@ use reports::report_binding;
 use reports::report_comparison;
 use reports::report_dependence;
 use reports::tell;
+ghost use mathlib.Core.Path.{_≡_};
 ghost use Rattle.surface.specs.Tables.{tables, lengths};
-ghost use Rattle.dependence.specs.Asks.{Asks, report-dependence};
+ghost use Rattle.dependence.specs.Asks.{ask, report-dependence};
 ghost use Rattle.binding.specs.Binds.{AsksBinder, report-binding};
 ghost use Rattle.same.specs.Comparison.{report-comparison, SameAsked};
-ghost use Rattle.reports.specs.Numbers.{Told};
+ghost use Rattle.reports.specs.Numbers.{tells, telling, Told};
 
-// Whether declaration i depends on j. Answers 0 for yes and no; a yes has one value, the row, and a no has none. `answer` takes three numbers.
+// Whether declaration i depends on j. Answers 0 for yes and no; a yes has one value, the first row that shows it, and a no has none. `answer`
+// takes three numbers.
 #[no_mangle]
 pub extern "C" fn sulyterom_depends(
     source: &[u8],
@@ -22,10 +24,8 @@ pub extern "C" fn sulyterom_depends(
     answer: &mut [u64],
 ) -> u8
     ensures { λ r. ⌜
-        Told (λ a. Asks (now (source .entry)) i j
-        (tables (now (surface .entry)) (now (core .entry)) (now (declarations .entry)) (now (work .entry))) a
-        (tables (now (surface .exit)) (now (core .exit)) (now (declarations .exit)) (now (work .exit)))) report-dependence 3
-        (now (answer .entry)) r (now (answer .exit))
+        tells r (now (answer .exit)) (tables (now (surface .exit)) (now (core .exit)) (now (declarations .exit)) (now (work .exit)))
+        ≡ telling report-dependence 3 (now (answer .entry)) (ask (now (source .entry)) (lengths (tables (now (surface .entry)) (now (core .entry)) (now (declarations .entry)) (now (work .entry)))) i j)
         ⌝ }
 {
     let asked = depends::depends(source, i, j, surface, core, declarations, work);

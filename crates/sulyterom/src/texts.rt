@@ -6,13 +6,14 @@ use reports::report_token;
 use reports::tell;
 use reports::tell_all;
 ghost use mathlib.Core.Path.{_≡_};
+ghost use lib.ListN.{length};
 ghost use Rattle.surface.specs.Tables.{tables};
 ghost use Rattle.token.specs.Token.{next-token};
-ghost use Rattle.least_storage.specs.Storage.{Stores, report-storage};
+ghost use Rattle.least_storage.specs.Storage.{storage-left, report-storage};
 ghost use Rattle.lister.specs.Lists.{Lists};
 ghost use Rattle.module_name.specs.ModuleName.{module-name, report-module-name};
 ghost use Rattle.surface.specs.Reports.{report-token};
-ghost use Rattle.reports.specs.Numbers.{report-listed, Told};
+ghost use Rattle.reports.specs.Numbers.{report-listed, tells, telling, Told};
 
 // Loads a source and writes its listing, or the line of its refusal, into `text`. The values are those of loading and then the text's length;
 // a text that does not fit is cut, and its length is told as one more than there is room for. `answer` takes four numbers.
@@ -64,7 +65,10 @@ pub extern "C" fn sulyterom_head(source: &[u8], answer: &mut [u64]) -> u8
 // lent; it is 0 afterwards. `answer` takes four numbers.
 #[no_mangle]
 pub extern "C" fn sulyterom_storage(source: &[u8], work: &mut [u32], answer: &mut [u64]) -> u8
-    ensures { λ r. ⌜ Told (λ a. Stores (now (source .entry)) (now (work .entry)) a (now (work .exit))) report-storage 4 (now (answer .entry)) r (now (answer .exit)) ⌝ }
+    ensures { λ r. ⌜
+        tells r (now (answer .exit)) (now (work .exit))
+        ≡ telling report-storage 4 (now (answer .entry)) (storage-left (now (source .entry)) (length (now (work .entry))))
+        ⌝ }
 {
     let needed = storage::storage(source, work);
     let numbers = report_storage(needed);

@@ -1,5 +1,6 @@
 -- `sulyterom::sulyterom_load` meets its contract.
-use Rattle.reports.proofs.Telling.{tells}
+use Rattle.surface.specs.Reports.{report}
+use Rattle.reports.proofs.Telling.{by-definition}
 use borrow.Author.Needs.{needs}
 use Rattle.sulyterom.proofs.sulyterom_load.Statement.{statement}
 use Rattle.sulyterom.proofs.sulyterom_load.Tie as tie
@@ -31,7 +32,7 @@ same-length-5 c = search needs
 returns : tie.Need-returns
 returns c =
     let k = c .before .before .before .before .before .before .before .before .before .before .before .before .before .load in
-    tells 3 _ (c .before .before .before .before .before .before .before .before .before .before .before .before .before .before .before .before .before .before .before .before .before .before .before .before .args .answer .now) _ _ (k .result) (k .ensures) (c .before .before .before .before .report-loaded .ensures) (c .before .before .tell .ensures)
+    by-definition report 3 _ (c .before .before .before .before .before .before .before .before .before .before .before .before .before .before .before .before .before .before .before .before .before .before .before .before .args .answer .now) _ _ (k .result) _ _ (k .ensures) (c .before .before .before .before .report-loaded .ensures) (c .before .before .tell .ensures)
 
 pub sulyterom-load-spec : {M : Type 1} → statement M
 sulyterom-load-spec =

@@ -1,5 +1,6 @@
 -- `sulyterom::sulyterom_parse` meets its contract.
-use Rattle.reports.proofs.Telling.{tells}
+use Rattle.loader.specs.Parsed.{report-read}
+use Rattle.reports.proofs.Telling.{by-definition}
 use borrow.Author.Needs.{needs}
 use Rattle.sulyterom.proofs.sulyterom_parse.Statement.{statement}
 use Rattle.sulyterom.proofs.sulyterom_parse.Tie as tie
@@ -28,7 +29,7 @@ same-length-4 c = search needs
 returns : tie.Need-returns
 returns c =
     let k = c .before .before .before .before .before .before .before .before .before .before .before .parse-surface in
-    tells 3 _ (c .before .before .before .before .before .before .before .before .before .before .before .before .before .before .before .before .before .before .before .before .args .answer .now) _ _ (k .result) (k .ensures) (c .before .before .before .before .report-read .ensures) (c .before .before .tell .ensures)
+    by-definition report-read 3 _ (c .before .before .before .before .before .before .before .before .before .before .before .before .before .before .before .before .before .before .before .before .args .answer .now) _ _ (k .result) _ _ (k .ensures) (c .before .before .before .before .report-read .ensures) (c .before .before .tell .ensures)
 
 pub sulyterom-parse-spec : {M : Type 1} → statement M
 sulyterom-parse-spec =

@@ -1,5 +1,5 @@
 -- `sulyterom::core_texts::sulyterom_print` meets its contract.
-use Rattle.reports.proofs.Telling.{tells}
+use Rattle.reports.proofs.Telling.{by-promise}
 use borrow.Author.Needs.{needs}
 use Rattle.sulyterom.proofs.core_texts.sulyterom_print.Statement.{statement}
 use Rattle.sulyterom.proofs.core_texts.sulyterom_print.Tie as tie
@@ -34,7 +34,7 @@ same-length-6 c = search needs
 returns : tie.Need-returns
 returns c =
     let k = c .before .before .before .before .before .before .before .before .before .before .before .before .before .before .before .print in
-    tells 3 _ (c .before .before .before .before .before .before .before .before .before .before .before .before .before .before .before .before .before .before .before .before .before .before .before .before .before .before .before .before .args .answer .now) _ _ (k .result) (k .ensures) (c .before .before .before .before .report-printed .ensures) (c .before .before .tell .ensures)
+    by-promise 3 _ (c .before .before .before .before .before .before .before .before .before .before .before .before .before .before .before .before .before .before .before .before .before .before .before .before .before .before .before .before .args .answer .now) _ _ (k .result) (k .ensures) (c .before .before .before .before .report-printed .ensures) (c .before .before .tell .ensures)
 
 pub sulyterom-print-spec : {M : Type 1} → statement M
 sulyterom-print-spec =

@@ -1,5 +1,6 @@
 -- `sulyterom::core_texts::sulyterom_read_canonical` meets its contract.
-use Rattle.reports.proofs.Telling.{tells}
+use Rattle.surface.specs.Reports.{report}
+use Rattle.reports.proofs.Telling.{by-definition}
 use borrow.Author.Needs.{needs}
 use Rattle.sulyterom.proofs.core_texts.sulyterom_read_canonical.Statement.{statement}
 use Rattle.sulyterom.proofs.core_texts.sulyterom_read_canonical.Tie as tie
@@ -28,7 +29,7 @@ same-length-4 c = search needs
 returns : tie.Need-returns
 returns c =
     let k = c .before .before .before .before .before .before .before .before .before .before .before .read-canonical in
-    tells 3 _ (c .before .before .before .before .before .before .before .before .before .before .before .before .before .before .before .before .before .before .before .before .args .answer .now) _ _ (k .result) (k .ensures) (c .before .before .before .before .report-loaded .ensures) (c .before .before .tell .ensures)
+    by-definition report 3 _ (c .before .before .before .before .before .before .before .before .before .before .before .before .before .before .before .before .before .before .before .before .args .answer .now) _ _ (k .result) _ _ (k .ensures) (c .before .before .before .before .report-loaded .ensures) (c .before .before .tell .ensures)
 
 pub sulyterom-read-canonical-spec : {M : Type 1} → statement M
 sulyterom-read-canonical-spec =

@@ -1,5 +1,5 @@
 -- `sulyterom::questions::sulyterom_binder` meets its contract.
-use Rattle.reports.proofs.Telling.{tells}
+use Rattle.reports.proofs.Telling.{by-promise}
 use borrow.Author.Needs.{needs}
 use Rattle.sulyterom.proofs.questions.sulyterom_binder.Statement.{statement}
 use Rattle.sulyterom.proofs.questions.sulyterom_binder.Tie as tie
@@ -31,7 +31,7 @@ same-length-5 c = search needs
 returns : tie.Need-returns
 returns c =
     let k = c .before .before .before .before .before .before .before .before .before .before .before .before .before .binder in
-    tells 3 _ (c .before .before .before .before .before .before .before .before .before .before .before .before .before .before .before .before .before .before .before .before .before .before .before .before .args .answer .now) _ _ (k .result) (k .ensures) (c .before .before .before .before .report-binding .ensures) (c .before .before .tell .ensures)
+    by-promise 3 _ (c .before .before .before .before .before .before .before .before .before .before .before .before .before .before .before .before .before .before .before .before .before .before .before .before .args .answer .now) _ _ (k .result) (k .ensures) (c .before .before .before .before .report-binding .ensures) (c .before .before .tell .ensures)
 
 pub sulyterom-binder-spec : {M : Type 1} → statement M
 sulyterom-binder-spec =

@@ -1,5 +1,6 @@
 -- `sulyterom::questions::sulyterom_depends` meets its contract.
-use Rattle.reports.proofs.Telling.{tells}
+use Rattle.dependence.specs.Asks.{report-dependence}
+use Rattle.reports.proofs.Telling.{by-definition}
 use borrow.Author.Needs.{needs}
 use Rattle.sulyterom.proofs.questions.sulyterom_depends.Statement.{statement}
 use Rattle.sulyterom.proofs.questions.sulyterom_depends.Tie as tie
@@ -31,7 +32,7 @@ same-length-5 c = search needs
 returns : tie.Need-returns
 returns c =
     let k = c .before .before .before .before .before .before .before .before .before .before .before .before .before .depends in
-    tells 3 _ (c .before .before .before .before .before .before .before .before .before .before .before .before .before .before .before .before .before .before .before .before .before .before .before .before .args .answer .now) _ _ (k .result) (k .ensures) (c .before .before .before .before .report-dependence .ensures) (c .before .before .tell .ensures)
+    by-definition report-dependence 3 _ (c .before .before .before .before .before .before .before .before .before .before .before .before .before .before .before .before .before .before .before .before .before .before .before .before .args .answer .now) _ _ (k .result) _ _ (k .ensures) (c .before .before .before .before .report-dependence .ensures) (c .before .before .tell .ensures)
 
 pub sulyterom-depends-spec : {M : Type 1} → statement M
 sulyterom-depends-spec =

@@ -1,5 +1,5 @@
 -- `sulyterom::questions::sulyterom_same` meets its contract.
-use Rattle.reports.proofs.Telling.{tells}
+use Rattle.reports.proofs.Telling.{by-promise}
 use borrow.Author.Needs.{needs}
 use Rattle.sulyterom.proofs.questions.sulyterom_same.Statement.{statement}
 use Rattle.sulyterom.proofs.questions.sulyterom_same.Tie as tie
@@ -40,7 +40,7 @@ same-length-8 c = search needs
 returns : tie.Need-returns
 returns c =
     let k = c .before .before .before .before .before .before .before .before .before .before .before .before .before .before .before .before .before .before .before .same in
-    tells 3 _ (c .before .before .before .before .before .before .before .before .before .before .before .before .before .before .before .before .before .before .before .before .before .before .before .before .before .before .before .before .before .before .before .before .before .before .before .before .before .args .answer .now) _ _ (k .result) (k .ensures) (c .before .before .before .before .report-comparison .ensures) (c .before .before .tell .ensures)
+    by-promise 3 _ (c .before .before .before .before .before .before .before .before .before .before .before .before .before .before .before .before .before .before .before .before .before .before .before .before .before .before .before .before .before .before .before .before .before .before .before .before .before .args .answer .now) _ _ (k .result) (k .ensures) (c .before .before .before .before .report-comparison .ensures) (c .before .before .tell .ensures)
 
 pub sulyterom-same-spec : {M : Type 1} → statement M
 sulyterom-same-spec =

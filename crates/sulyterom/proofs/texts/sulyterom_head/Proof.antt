@@ -1,5 +1,5 @@
 -- `sulyterom::texts::sulyterom_head` meets its contract.
-use Rattle.reports.proofs.Telling.{tells}
+use Rattle.reports.proofs.Telling.{by-promise}
 use borrow.Author.Needs.{needs}
 use Rattle.sulyterom.proofs.texts.sulyterom_head.Statement.{statement}
 use Rattle.sulyterom.proofs.texts.sulyterom_head.Tie as tie
@@ -19,7 +19,7 @@ same-length c = search needs
 returns : tie.Need-returns
 returns c =
     let k = c .before .before .before .before .before .head in
-    tells 3 _ (c .before .before .before .before .before .before .before .before .args .answer .now) _ _ (k .result) (k .ensures) (c .before .before .before .before .report-module-name .ensures) (c .before .before .tell .ensures)
+    by-promise 3 _ (c .before .before .before .before .before .before .before .before .args .answer .now) _ _ (k .result) (k .ensures) (c .before .before .before .before .report-module-name .ensures) (c .before .before .tell .ensures)
 
 pub sulyterom-head-spec : {M : Type 1} → statement M
 sulyterom-head-spec = tie.close (tie.spec head-requires report-module-name-requires tell-requires same-length returns)

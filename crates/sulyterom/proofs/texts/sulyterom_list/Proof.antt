@@ -1,5 +1,5 @@
 -- `sulyterom::texts::sulyterom_list` meets its contract.
-use Rattle.reports.proofs.Telling.{tells}
+use Rattle.reports.proofs.Telling.{by-promise}
 use borrow.Author.Needs.{needs}
 use Rattle.sulyterom.proofs.texts.sulyterom_list.Statement.{statement}
 use Rattle.sulyterom.proofs.texts.sulyterom_list.Tie as tie
@@ -34,7 +34,7 @@ same-length-6 c = search needs
 returns : tie.Need-returns
 returns c =
     let k = c .before .before .before .before .before .before .before .before .before .before .before .before .before .before .before .list in
-    tells 4 _ (c .before .before .before .before .before .before .before .before .before .before .before .before .before .before .before .before .before .before .before .before .before .before .before .before .before .before .before .before .args .answer .now) _ _ (k .result) (k .ensures) (c .before .before .before .before .report-listed .ensures) (c .before .before .tell-all .ensures)
+    by-promise 4 _ (c .before .before .before .before .before .before .before .before .before .before .before .before .before .before .before .before .before .before .before .before .before .before .before .before .before .before .before .before .args .answer .now) _ _ (k .result) (k .ensures) (c .before .before .before .before .report-listed .ensures) (c .before .before .tell-all .ensures)
 
 pub sulyterom-list-spec : {M : Type 1} → statement M
 sulyterom-list-spec =

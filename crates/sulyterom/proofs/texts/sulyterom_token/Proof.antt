@@ -1,7 +1,7 @@
 -- `sulyterom::texts::sulyterom_token` meets its contract.
 use mathlib.Core.Path.{ap}
 use Rattle.lexer.specs.declared.Stepped.{Stepped}
-use Rattle.reports.proofs.Telling.{tells}
+use Rattle.reports.proofs.Telling.{by-promise}
 use borrow.Author.Needs.{needs}
 use Rattle.sulyterom.proofs.texts.sulyterom_token.Statement.{statement}
 use Rattle.sulyterom.proofs.texts.sulyterom_token.Tie as tie
@@ -21,7 +21,7 @@ same-length c = search needs
 returns : tie.Need-returns
 returns c =
     let k = c .before .before .before .before .before .lex in
-    tells 4 _ (c .before .before .before .before .before .before .before .before .args .answer .now) _ _ (k .result .lexed) (ap (λ (x : Stepped). x .lexed) (k .ensures)) (c .before .before .before .before .report-token .ensures) (c .before .before .tell-all .ensures)
+    by-promise 4 _ (c .before .before .before .before .before .before .before .before .args .answer .now) _ _ (k .result .lexed) (ap (λ (x : Stepped). x .lexed) (k .ensures)) (c .before .before .before .before .report-token .ensures) (c .before .before .tell-all .ensures)
 
 pub sulyterom-token-spec : {M : Type 1} → statement M
 sulyterom-token-spec =
