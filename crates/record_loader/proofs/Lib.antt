@@ -4,6 +4,7 @@ mod Fronts
 pub mod Holds
 mod Lists
 mod Moves
+pub mod OneReply
 mod Replying
 mod Room
 mod Settling

@@ -74,6 +74,12 @@ ReadsRecords =
     → ((Replies t Question.ReadCore (worded before) text (Reply.Read a) (worded after) text₁ → ReadsCore t (without-surface (worded before)) a (without-surface (worded after)))
     × (Replies t Question.ReadCanonical (worded before) text (Reply.Read a) (worded after) text₁ → ReadsCanonical t (without-surface (worded before)) a (without-surface (worded after))))
 
+-- Nothing is left free, whatever is asked: two calls with the same before them give the same reply and leave the same.
+abbrev pub OneReply : Type 0
+OneReply =
+    (s : List ℕ) (question : Question) (before : Tables) (text : List ℕ) (r₁ r₂ : Reply) (after₁ after₂ : Tables) (text₁ text₂ : List ℕ)
+    → Replies s question before text r₁ after₁ text₁ → Replies s question before text r₂ after₂ text₂ → (r₁ ≡ r₂) × (after₁ ≡ after₂) × (text₁ ≡ text₂)
+
 -- The number and values of a reply are those of the answer that it holds.
 abbrev pub report-reply : Reply → Report
 report-reply (Reply.Loaded a) = report a

@@ -14,7 +14,7 @@ use Rattle.surface.proofs.CompleteModule.{unique}
 use Rattle.surface.proofs.Demand.{by-definition}
 use Rattle.same.specs.declared.Comparison.{Comparison}
 use Rattle.same.specs.Comparison.{PartAt, Parting, Compares, SameAnswers, Tables, SameAsked, report-comparison}
-use Rattle.same.specs.Statements.{AnswersExactly, SameCoreExactly, ComparingReports, CompareReports}
+use Rattle.same.specs.Statements.{AnswersExactly, SameCoreExactly, OneAnswer, ComparingReports, CompareReports}
 
 -- Two modules part at one place only, and only if they do not agree.
 part-once : (j k : ℕ) (l m : List NamedDeclaration) → PartAt j l m → PartAt k l m → j ≡ k
@@ -68,10 +68,14 @@ module _ (s t : List ℕ) where
   one-answer (Comparison.SecondRefused r) b p q = absurd p
 
   -- The answer is determined, refusals too.
-  pub determined : (b c : Answer) (a d : Comparison) → SameAnswers s t b c a → SameAnswers s t b c d → a ≡ d
+  determined : (b c : Answer) (a d : Comparison) → SameAnswers s t b c a → SameAnswers s t b c d → a ≡ d
   determined (Answer.Refused r) c a d p q = p ∙ sym q
   determined (Answer.Loaded m n) (Answer.Refused r) a d p q = p ∙ sym q
   determined (Answer.Loaded m n) (Answer.Loaded o r) a d p q = one-answer a d p q
+
+pub nothing-free : OneAnswer
+nothing-free s t y z a b x w u v p q =
+    (determined s t (load s y .answer) (load t z .answer) a b (p .answers) (q .answers), p .first-left ∙ sym (q .first-left), p .second-left ∙ sym (q .second-left))
 
 compares : (s t : List ℕ) (y z : Lengths) (a : Comparison) (x w : Tables) → SameAsked s t y z a x w → Accepts (load s y) → Accepts (load t z) → Compares s t a
 compares s t y z a x w p f g = subst₂ (λ (b c : Answer). SameAnswers s t b c a) (f .2) (g .2) (p .answers)

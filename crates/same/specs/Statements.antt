@@ -25,6 +25,11 @@ SameCoreExactly =
     (s t : List ℕ) (y z : Lengths) (a : Comparison) (x w : Tables) → SameAsked s t y z a x w → Accepts (load s y) → Accepts (load t z)
     → (a ≡ Comparison.Same) ↔ SameCore s (load s y) t (load t z)
 
+-- Nothing is left free: two calls for the same sources, with tables of the same lengths, give the same answer and leave the same tables.
+abbrev pub OneAnswer : Type 0
+OneAnswer =
+    (s t : List ℕ) (y z : Lengths) (a b : Comparison) (x w u v : Tables) → SameAsked s t y z a x w → SameAsked s t y z b u v → (a ≡ b) × (x ≡ u) × (w ≡ v)
+
 -- The number and values of an answer, by what loading the two sources answers: 0 and no value if they agree, 0 and the place where they part,
 -- or the refusal, the first source's coming first.
 abbrev pub ComparingReports : List ℕ → List ℕ → Answer → Answer → Report → Type 0
