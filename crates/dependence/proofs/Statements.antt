@@ -1,6 +1,6 @@
 -- The statements of dependence/specs/Statements.antt, proved.
 use mathlib.Core.Path.{_≡_, refl, sym, ap, _∙_, subst}
-use mathlib.Core.Logic.{_↔_, inl, inr}
+use mathlib.Core.Logic.{_↔_}
 use mathlib.Core.Bool.{_&&_}
 use mathlib.Core.List.{List, []}
 use mathlib.Core.Option.{Option, none, some}
@@ -12,7 +12,7 @@ use Rattle.terms.specs.Label.{Declaration}
 use Rattle.terms.specs.Resolution.{CoreDeclaration, resolve-module}
 use Rattle.surface.specs.Tables.{Lengths, Tables, lengths, Left}
 use Rattle.surface.specs.Reader.{Position, start, Result, done, refused, nowhere}
-use Rattle.surface.specs.Reports.{Report, accepted, report-refusal}
+use Rattle.surface.specs.Reports.{accepted}
 use Rattle.surface.proofs.Steps.{after-elim, require-elim, done-inj}
 use Rattle.surface.specs.Loading.{loading}
 use Rattle.dependence.specs.declared.Dependence.{Dependence}

@@ -1,5 +1,5 @@
 -- What is marked and found in the tables of a loaded source is what the definition marks and finds.
-use mathlib.Core.Path.{_≡_, refl, sym, ap, _∙_, subst}
+use mathlib.Core.Path.{_≡_, refl, sym, ap, _∙_}
 use mathlib.Core.Bool.{Bool, true, false, _&&_, _||_, cond}
 use mathlib.Core.List.{List, [], _∷_}
 use mathlib.Core.Option.{Option, none, some}
@@ -8,11 +8,11 @@ use native.Mathlib.Omega.{arith}
 use native.Mathlib.Nat.{add-zero}
 use lib.Dec.{eqb, ltb}
 use borrow.Author.Tests.{lt-ltb, le-ltb, ltb-true, ltb-false}
-use lib.ListN.{length, getD, List·getD-eq-default}
+use lib.ListN.{length, getD}
 use Rattle.terms.specs.Label.{Declaration}
 use Rattle.terms.specs.Resolution.{CoreDeclaration, resolve-module}
 use Rattle.terms.specs.Rows.{pad, joined, core-rows, declaration-records}
-use Rattle.terms.proofs.Tables.{getD-pad, length-pad, Wide, joined-at}
+use Rattle.terms.proofs.Tables.{getD-pad, Wide, joined-at}
 use Rattle.terms.proofs.Widths.{wide-core, wide-records, total-core, total-surface, count-records}
 use Rattle.surface.specs.Reader.{Position, start, done}
 use Rattle.surface.specs.Loading.{Lengths, loading, outcome}

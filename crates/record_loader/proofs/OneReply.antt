@@ -1,7 +1,5 @@
 -- The promise of `ask_records` leaves nothing free.
 use mathlib.Core.Path.{_≡_, refl, sym, ap, _∙_}
-use mathlib.Core.List.{List}
-use Prim.Native.Nat.{ℕ}
 use lib.ListN.{length}
 use Rattle.terms.specs.Rows.{pad}
 use Rattle.surface.specs.declared.Answer.{Answer}
