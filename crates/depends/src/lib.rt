@@ -1,5 +1,5 @@
-// The dependence question of document 01, as document 02, Req 05 amends it: a source is loaded, the places that show one declaration are marked
-// in the work area in one pass upwards, and the rows of the other are searched for one that names a marked place.
+// The dependence question of document 01, as document 02, Req 05 and 09 amend it: a source is loaded, the places that show one declaration are
+// marked in the work area in one pass upwards, and the rows of the other are searched for the first that names a marked place.
 use dependence::Dependence;
 use loader::clear_all;
 use loader::nowhere_12;
@@ -96,7 +96,7 @@ fn look_at_places(core: &[u32], declarations: &[u32], work: &mut [u32], j: usize
     }
 }
 
-// A row of declaration i that names a marked place.
+// The first row of declaration i that names a marked place.
 fn find_shown(core: &[u32], declarations: &[u32], work: &[u32], i: usize) -> Dependence
     ensures { λ r. ⌜ r ≡ shown-row (now (core .entry)) (now (declarations .entry)) (now (work .entry)) i ⌝ }
 {
@@ -109,7 +109,7 @@ fn find_shown(core: &[u32], declarations: &[u32], work: &[u32], i: usize) -> Dep
     Dependence::No
 }
 
-// A row of declaration i that names a place which shows j. The marks are cleared again.
+// The first row of declaration i that names a place which shows j. The marks are cleared again.
 fn find_dependence(
     core: &[u32],
     declarations: &[u32],
@@ -145,7 +145,7 @@ fn refused_by_loading(refusal: Refusal) -> Dependence
     Dependence::Refused(refusal)
 }
 
-// Whether declaration i depends on j. A yes or a no leaves the tables as loading does, a refusal leaves 0 in all of them.
+// Whether declaration i depends on j, and the first row that shows it. A yes or a no leaves the tables as loading does, a refusal leaves 0 in all of them.
 pub fn depends(
     s: &[u8],
     i: usize,
