@@ -160,7 +160,7 @@ pub const CLASSES: [&str; 11] = [
 
 /// Of the dependence question: the rows of the declaration that is asked of, what shows a place, the row that is shown, the
 /// places, the tables.
-pub const DEPENDENCE: [&str; 24] = [
+pub const DEPENDENCE: [&str; 28] = [
     "body-not-looked-at",
     "opaque-body-not-looked-at",
     "type-not-looked-at",
@@ -178,6 +178,10 @@ pub const DEPENDENCE: [&str; 24] = [
     // the row that is shown
     "row-of-any-declaration",
     "row-that-shows-another",
+    "row-that-comes-last",
+    "row-that-names-it",
+    "row-of-the-body-first",
+    "row-of-a-part-from-behind",
     // the places that are asked of
     "places-swapped",
     "places-of-32-bits",

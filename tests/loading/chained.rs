@@ -1,5 +1,6 @@
 //! Random modules for dependence: declarations that name some of those before, in types, in transparent bodies and in opaque
-//! ones. Chains come often, such that part and meet again, and such that an opaque body ends.
+//! ones. Chains come often, such that part and meet again, and such that an opaque body ends. Where types and bodies have many
+//! names, several rows of one declaration lead to another.
 use common::modules::{Declaration, Kind, Module, Term};
 use common::prng::Prng;
 use common::vocabulary::{BINDING, FORMS, LEAVES};
@@ -27,7 +28,8 @@ pub fn chained(prng: &mut Prng) -> Module {
     };
     let kinds = if prng.chance(40) { MIXTURES[MIXTURES.len() - 1] } else { prng.pick::<&[Kind]>(&MIXTURES) };
     let near = *prng.pick(&[0, 50, 90]);
-    module(count, Maker { prng, kinds, near, least: 0, names: Vec::new() })
+    let more = *prng.pick(&[0, 0, 1, 2]);
+    module(count, Maker { prng, kinds, near, least: 0, more, names: Vec::new() })
 }
 
 /// A module of so many declarations, each of which names one of the two before: chains are as long, or opaque bodies end them.
@@ -37,7 +39,7 @@ pub fn long(count: usize, prng: &mut Prng) -> Module {
     } else {
         &[Kind::Postulate, Kind::Transparent, Kind::Opaque]
     };
-    module(count, Maker { prng, kinds, near: 100, least: 1, names: Vec::new() })
+    module(count, Maker { prng, kinds, near: 100, least: 1, more: 0, names: Vec::new() })
 }
 
 fn module(count: usize, mut maker: Maker<'_>) -> Module {
@@ -52,6 +54,8 @@ struct Maker<'a> {
     near: usize,
     /// At least so many names in a body, or in the type of a postulate.
     least: usize,
+    /// So many names more in each type and body.
+    more: usize,
     /// The declarations made so far.
     names: Vec<String>,
 }
@@ -59,9 +63,9 @@ struct Maker<'a> {
 impl Maker<'_> {
     fn declaration(&mut self, place: usize) -> Declaration {
         let kind = *self.prng.pick(self.kinds);
-        let most = (*self.prng.pick(&IN_BODIES)).max(self.least);
+        let most = (*self.prng.pick(&IN_BODIES)).max(self.least) + self.more;
         // where there is no body, the type has to make the chain
-        let in_type = if kind == Kind::Postulate { most } else { *self.prng.pick(&IN_TYPES) };
+        let in_type = if kind == Kind::Postulate { most } else { *self.prng.pick(&IN_TYPES) + self.more };
         let ty = self.term(in_type);
         let body = (kind != Kind::Postulate).then(|| self.term(most));
         let name = format!("a{place}");

@@ -1,5 +1,5 @@
 //! The dependence question against a search from each declaration, on what the Rust says that loading leaves: all pairs of
-//! places, at and past the count too.
+//! places, at and past the count too. Yes or no, the row that is shown, and every word of the tables.
 use super::chained::{chained, long};
 use super::check::{answer_numbers, compare_tables};
 use super::dependences::{Dependences, TRAITS};
@@ -181,15 +181,8 @@ fn check(asked: &Asked, places: [usize; 2], sizes: Sizes, loaded: &Loaded) -> Op
     mismatch.map(|mismatch| Mismatch { what: format!("{} for {places:?} with {sizes:?}", mismatch.what), ..mismatch })
 }
 
-/// "A yes shows a row of i that names such a place (it need not be a global j)": any of them will do.
+/// "A yes shall show the lowest-numbered row that qualifies": no other will do.
 fn compare_answer(dependences: &Dependences, [i, j]: [usize; 2], loaded: &Loaded) -> Option<Mismatch> {
-    let rows = dependences.rows(i, j);
-    let right = match loaded.answer {
-        _ if loaded.class != 0 => false,
-        [1, row, 0] => rows.contains(&(row as usize)),
-        [0, 0, 0] => rows.is_empty(),
-        _ => false,
-    };
-    let found = format!("{} {:?}", loaded.class, loaded.answer);
-    (!right).then(|| Mismatch { what: String::from("dependence"), expected: format!("one of {rows:?}"), found })
+    let answer = dependences.row(i, j).map_or([0, 0, 0], |row| [1, row as u64, 0]);
+    differ("dependence", format!("{:?}", (0, answer)), format!("{:?}", (loaded.class, loaded.answer)))
 }

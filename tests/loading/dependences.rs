@@ -1,5 +1,5 @@
-//! Which declarations depend on which: from each place a search down through what the rows on the way name. The words are
-//! those that the Rust gives, and the rows of a declaration are found by its tree.
+//! Which declarations depend on which, and the row that is to be shown: from each place a search down through what the rows on
+//! the way name. The words are those that the Rust gives, and the rows of a declaration are found by its tree.
 use super::expected::Content;
 use super::tables::{RECORD, ROW};
 use common::vocabulary::{FORMS, KINDS};
@@ -54,8 +54,8 @@ pub struct Dependences {
     shown: Shown,
 }
 
-/// What makes a pair of places telling.
-pub const TRAITS: [&str; 8] = [
+/// What makes a pair of places telling. A part is a type or a body.
+pub const TRAITS: [&str; 13] = [
     "yes only through another",
     "yes only through two others",
     "yes only by its own opaque body",
@@ -63,6 +63,11 @@ pub const TRAITS: [&str; 8] = [
     "yes only through a transparent one's body",
     "yes only through a postulate's type",
     "yes by rows that name different places",
+    "yes by several rows of its type",
+    "yes by several rows of its body alone",
+    "yes by its type and by its body",
+    "yes first by a row that names another, though a later one of that part names it",
+    "yes by a type that names others alone, though the body names it",
     "no, as an opaque body on the way does not count",
 ];
 
@@ -73,9 +78,10 @@ impl Dependences {
         Self { declared, shown }
     }
 
-    /// "Declaration i depends on j exactly if some global row in i's type or body names a place that shows j": these rows.
-    pub fn rows(&self, i: usize, j: usize) -> Vec<usize> {
-        self.globals(i).filter(|global| self.shown[global.place][j]).map(|global| global.row).collect()
+    /// "A yes shall show the lowest-numbered row that qualifies under Req 05's rule": "some global row in i's type or body
+    /// names a place that shows j". None is a no.
+    pub fn row(&self, i: usize, j: usize) -> Option<usize> {
+        self.globals(i).filter(|global| self.shown[global.place][j]).map(|global| global.row).min()
     }
 
     fn globals(&self, i: usize) -> impl Iterator<Item = Global> {
@@ -106,20 +112,33 @@ impl Dependences {
     fn traits_of(&self, i: usize, j: usize, others: &Others) -> [bool; TRAITS.len()] {
         let by = |shown: &Shown| self.globals(i).any(|global| shown[global.place][j]);
         let yes = by(&self.shown);
-        let Declared { kind, ty, .. } = &self.declared[i];
-        let mut places: Vec<usize> =
-            self.globals(i).map(|global| global.place).filter(|place| self.shown[*place][j]).collect();
-        places.dedup();
+        let Declared { kind, ty, body } = &self.declared[i];
+        let [ty, body] = [ty, body].map(|part| self.qualifying(part, j));
+        let first_part = if ty.is_empty() { &body } else { &ty };
+        let first = first_part.first().copied();
+        let different = [&ty[..], &body].concat().iter().any(|place| Some(*place) != first);
         [
             yes && !by(&others.mentioned),
             yes && !by(&others.one_step),
-            yes && *kind == OPAQUE && !ty.iter().any(|global| self.shown[global.place][j]),
+            yes && *kind == OPAQUE && ty.is_empty(),
             yes && !by(&others.without_opaque_types),
             yes && !by(&others.without_bodies),
             yes && !by(&others.without_postulates),
-            places.len() > 1,
+            different,
+            ty.len() > 1,
+            ty.is_empty() && body.len() > 1,
+            !ty.is_empty() && !body.is_empty(),
+            first != Some(j) && first_part.contains(&j),
+            !ty.is_empty() && !ty.contains(&j) && body.contains(&j),
             !yes && by(&others.with_opaque_bodies),
         ]
+    }
+
+    /// The places that show j, as the rows of a part name them, from the lowest row on.
+    fn qualifying(&self, part: &[Global], j: usize) -> Vec<usize> {
+        let mut globals: Vec<Global> = part.iter().filter(|global| self.shown[global.place][j]).copied().collect();
+        globals.sort_by_key(|global| global.row);
+        globals.iter().map(|global| global.place).collect()
     }
 }
 

@@ -6,7 +6,7 @@ use common::fault::{fault, is};
 use common::refusal::Refusal;
 use std::ops::Range;
 
-/// A row that shows that declaration i depends on j, None for a no, or 12.
+/// The first row that shows that declaration i depends on j, None for a no, or 12.
 pub fn answer(module: &Module, [i, j]: [usize; 2]) -> Result<Option<usize>, Refusal> {
     let count = module.declarations.len() / RECORD;
     let [i, j] = match fault() {
@@ -21,10 +21,15 @@ pub fn answer(module: &Module, [i, j]: [usize; 2]) -> Result<Option<usize>, Refu
     let mut search = Search { module, j, known: vec![None; count] };
     let mut rows = rows_of(module, i);
     let found = rows.clone().find(|row| search.leads(*row));
+    let [ty, body] = parts(module, i);
     Ok(match fault() {
         "own-place-is-a-yes" if i == j => Some(rows.start),
         "row-of-any-declaration" => found.and_then(|_| (0..module.core.len() / ROW).find(|row| search.leads(*row))),
         "row-that-shows-another" => found.and_then(|_| rows.find(|row| named(module, *row).is_some())),
+        "row-that-comes-last" => rows.rfind(|row| search.leads(*row)),
+        "row-that-names-it" => rows.find(|row| named(module, *row) == Some(j)).or(found),
+        "row-of-the-body-first" => body.chain(ty).find(|row| search.leads(*row)),
+        "row-of-a-part-from-behind" => ty.rev().chain(body.rev()).find(|row| search.leads(*row)),
         _ => found,
     })
 }
@@ -69,9 +74,8 @@ impl Search<'_> {
 
 /// The rows of a declaration on the way that count: those of its type, and of its body if it is transparent.
 fn on_the_way(module: &Module, place: usize) -> impl Iterator<Item = usize> {
-    let [kind, _, _, ty, _] = module.declarations[place * RECORD..][..RECORD] else { unreachable!("a record") };
-    let Range { start, end } = whole(module, place);
-    let (mut types, mut bodies) = (start..ty as usize + 1, ty as usize + 1..end);
+    let kind = module.declarations[place * RECORD];
+    let [mut types, mut bodies] = parts(module, place);
     match (fault(), kind) {
         ("types-on-the-way-left-out", _) | ("postulate-types-not-followed", 1) | ("opaque-types-not-followed", 3) => {
             types.end = types.start;
@@ -98,14 +102,22 @@ fn whole(module: &Module, place: usize) -> Range<usize> {
     place.checked_sub(1).map_or(0, end)..end(place)
 }
 
+/// The rows of a declaration's type, and those of its body behind them.
+fn parts(module: &Module, place: usize) -> [Range<usize>; 2] {
+    let Range { start, end } = whole(module, place);
+    let behind = module.declarations[place * RECORD + 3] as usize + 1;
+    [start..behind, behind..end]
+}
+
 /// The rows of the declaration that is asked of.
 fn rows_of(module: &Module, place: usize) -> Range<usize> {
     let Range { start, end } = whole(module, place);
-    let [kind, _, _, ty, _] = module.declarations[place * RECORD..][..RECORD] else { unreachable!("a record") };
+    let kind = module.declarations[place * RECORD];
+    let [ty, body] = parts(module, place);
     match fault() {
-        "body-not-looked-at" => start..ty as usize + 1,
-        "opaque-body-not-looked-at" if kind == 3 => start..ty as usize + 1,
-        "type-not-looked-at" if kind != 1 => ty as usize + 1..end,
+        "body-not-looked-at" => ty,
+        "opaque-body-not-looked-at" if kind == 3 => ty,
+        "type-not-looked-at" if kind != 1 => body,
         "row-of-the-next-declaration" => start..(end + 1).min(module.core.len() / ROW),
         _ => start..end,
     }
