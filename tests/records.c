@@ -1,6 +1,6 @@
 /* Lends rows and declarations as structs, by the inline functions of sulyterom.h, and compares with the calls that lend
    words: the answer and every word must be equal, for lists of many lengths, and what lies behind the list must stay.
-   Then binders, the listing, reading alone, tokens, module names, the least storage and core text.
+   Then dependences, binders, the listing, reading alone, tokens, module names, the least storage and core text.
    The last line is 'N passed, M failed'. */
 #include "sulyterom.h"
 
@@ -103,6 +103,30 @@ static void binds(const char *source, size_t length, size_t row, size_t n) {
         equal = answers(1, told.place, 0) && nowhere && unbound;
     }
     check(equal && number == told.refused && left(&words, &structs, n), "a binder", length, n);
+}
+
+/* The row that is shown for the third declaration, and the place that it names, which need not be j. */
+static void first_row(const char *source, size_t j, size_t row, size_t place) {
+    size_t length = strlen(source);
+    fill(&structs);
+    sulyterom_tables tables = lent(&structs, 3);
+    sulyterom_dependence told = sulyterom_depends_in((const uint8_t *)source, length, 2, j, &tables);
+    check(told.refused == SULYTEROM_ACCEPTED && told.yes && told.row == row, "the first row", length, 3);
+    const sulyterom_row *named = &structs.core[row];
+    check(named->kind == SULYTEROM_GLOBAL && named->fields[0] == place, "what the first row names", length, 3);
+}
+
+#define TWO HEAD "(postulate a nat)(postulate b (ref a))"
+
+static void dependences(void) {
+    static const char other_first[] = TWO "(opaque c (pi x (ref b) (ref a)) (ref a))";
+    first_row(other_first, 0, 2, 1);
+    first_row(other_first, 1, 2, 1);
+    static const char itself_first[] = TWO "(transparent c (pi x (ref a) (ref x)) (app (ref b) (ref a)))";
+    first_row(itself_first, 0, 2, 0);
+    first_row(itself_first, 1, 5, 1);
+    first_row(TWO "(opaque c nat (app (ref b) (ref a)))", 0, 3, 1);
+    first_row(TWO "(opaque c (ref b) (ref a))", 0, 2, 1);
 }
 
 /* What the answer of the struct says of a source: the form's row is a form of the name. */
@@ -376,6 +400,7 @@ int main(void) {
     module_names();
     storages();
     offsets();
+    dependences();
     binders();
     core_text();
     lists(HEAD "(postulate x nat)(postulate y (pi x (ref x) (ref x)))",

@@ -241,6 +241,12 @@ static void refuses_to_bind(const char *what, const char *source, size_t row, le
 
 /* Three declarations, of which the last names the second, and that the first where ONE stands. */
 #define CHAIN(one) HEAD "(postulate a nat)" one "(postulate c (ref b))"
+/* One declaration behind two, of which the second names the first. */
+#define PAIR(one) HEAD "(postulate a nat)(postulate b (ref a))" one
+
+static void first_row(const char *what, const char *source, size_t i, size_t j, uint64_t row) {
+    check(what, depends(source, i, j, whole) == 0 && answers(1, row, 0));
+}
 
 static void depended(void) {
     check("y depends on x, by row 1", depends(input, 1, 0, whole) == 0 && answers(1, 1, 0));
@@ -262,6 +268,12 @@ static void depended(void) {
     check("not through an opaque body", depends(CHAIN("(opaque b nat (ref a))"), 2, 0, whole) == 0 && answers(0, 0, 0));
     check("the work area is 0 after a no", holds(work, WORK, WORK, nothing));
     check("by its own opaque body", depends(CHAIN("(opaque b nat (ref a))"), 1, 0, whole) == 0 && answers(1, 2, 0));
+
+    first_row("the first of two rows", HEAD "(postulate a nat)(postulate b (app (ref a) (ref a)))", 1, 0, 1);
+    first_row("the type before the body", HEAD "(postulate a nat)(opaque b (ref a) (ref a))", 1, 0, 1);
+    first_row("row 2, though row 3 names a itself", PAIR("(opaque c (ref b) (ref a))"), 2, 0, 2);
+    first_row("row 2, which names a itself", PAIR("(opaque c (ref a) (ref b))"), 2, 0, 2);
+    first_row("row 3, since row 2 does not lead to b", PAIR("(opaque c (ref a) (ref b))"), 2, 1, 3);
 }
 
 static void binds(void) {

@@ -1,8 +1,8 @@
 //! Which declaration depends on which, the row that shows it, and what the question leaves.
-use sulyterom::{Class, DeclarationKind, Loader, Refusal, Row, Tables, depends, load};
+use sulyterom::{Class, Loader, Refusal, Tables, depends, load};
 
 /// b and c are named in types, c in a body; d is reached by its own body, and e through the type of d alone, since the body
-/// of d is opaque. The b bound in f is no declaration.
+/// of d is opaque. The b bound in f is no declaration. Several rows of b, d, i and k lead to a, and not all of them name it.
 const SOURCE: &[u8] = b"\
 (surface 0 1)(module m)
 (postulate a (universe 0))
@@ -13,43 +13,60 @@ const SOURCE: &[u8] = b"\
 (postulate f (pi b nat (ref b)))
 (opaque g nat (ref c))
 (postulate h (ref g))
+(postulate i (pi x (ref b) (ref a)))
+(transparent k (ref a) (app (ref i) (ref c)))
 ";
 
-/// The places that each declaration depends on.
-const DEPENDS: [&[usize]; 8] = [&[], &[0], &[0, 1], &[0, 1, 2], &[0, 1, 3], &[], &[0, 1, 2], &[6]];
+/// The places that each declaration depends on, and the first row by which it does.
+const DEPENDS: [&[(usize, usize)]; 10] = [
+    &[],
+    &[(0, 1)],
+    &[(0, 5), (1, 5)],
+    &[(0, 8), (1, 8), (2, 9)],
+    &[(0, 15), (1, 15), (3, 15)],
+    &[],
+    &[(0, 20), (1, 20), (2, 20)],
+    &[(6, 21)],
+    &[(0, 22), (1, 22)],
+    &[(0, 25), (1, 26), (2, 27), (8, 26)],
+];
 const COUNT: usize = DEPENDS.len();
+
+/// The first row by which i depends on j.
+fn first_row(i: usize, j: usize) -> Option<usize> {
+    DEPENDS[i].iter().find(|(place, _)| *place == j).map(|(_, row)| *row)
+}
 
 #[test]
 fn every_pair() {
-    let mut asked = Tables::for_bytes(SOURCE.len());
     let mut tables = Tables::for_bytes(SOURCE.len());
-    let loaded = load(SOURCE, &mut tables).unwrap();
-    // what k shows: itself, and what it depends on, but for what only an opaque body names
-    let shows = |k: usize, j: usize| {
-        let opaque = loaded.declaration(k).unwrap().kind == DeclarationKind::Opaque;
-        let by_its_type: &[usize] = if k == 3 { &[0, 1] } else { &[] };
-        k == j || if opaque { by_its_type } else { DEPENDS[k] }.contains(&j)
-    };
-    for (i, on) in DEPENDS.iter().enumerate() {
-        let last = |place: usize| loaded.declaration(place).map(|it| it.body.unwrap_or(it.ty)).unwrap();
-        let own = if i == 0 { 0..=last(0) } else { last(i - 1) + 1..=last(i) };
-        for j in 0..COUNT {
-            let row = depends(SOURCE, i, j, &mut asked).unwrap().row;
-            assert_eq!(row.is_some(), on.contains(&j), "{i} on {j}");
-            if let Some(row) = row {
-                assert!(own.contains(&row), "row {row} for {i} on {j}");
-                let Some(Row::Global { place }) = loaded.row(row) else { panic!("row {row} for {i} on {j}") };
-                assert!(shows(place, j), "row {row}, which names {place}, for {i} on {j}");
-            }
-        }
+    for (i, j) in (0..COUNT).flat_map(|i| (0..COUNT).map(move |j| (i, j))) {
+        assert_eq!(depends(SOURCE, i, j, &mut tables).unwrap().row, first_row(i, j), "{i} on {j}");
     }
+}
+
+#[test]
+fn of_several_rows_the_first_is_shown() {
+    // rows 0 and 1 are those of a and b; the third declaration is asked about the first
+    let shown = |third: &str| {
+        let source = format!("(surface 0 1)(module m)(postulate a nat)(postulate b (ref a)){third}");
+        Loader::new().depends(source.as_bytes(), 2, 0).unwrap().row
+    };
+    assert_eq!(shown("(postulate c (pi x (ref a) (ref a)))"), Some(2));
+    // row 2 names b, and row 3 a itself
+    assert_eq!(shown("(postulate c (pi x (ref b) (ref a)))"), Some(2));
+    assert_eq!(shown("(opaque c (ref b) (ref a))"), Some(2));
+    assert_eq!(shown("(opaque c nat (app (ref b) (ref a)))"), Some(3));
+    // the type comes before the body
+    assert_eq!(shown("(transparent c (pi x nat (ref a)) (ref a))"), Some(3));
+    assert_eq!(shown("(transparent c nat (ref a))"), Some(3));
 }
 
 #[test]
 fn dependents_are_those_with_a_yes() {
     let mut loader = Loader::new();
     for j in 0..COUNT {
-        let expected: Vec<usize> = (0..COUNT).filter(|i| DEPENDS[*i].contains(&j)).collect();
+        let expected: Vec<usize> = (0..COUNT).filter(|i| first_row(*i, j).is_some()).collect();
         assert_eq!(loader.dependents(SOURCE, j), Ok(expected), "of {j}");
     }
 }
