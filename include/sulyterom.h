@@ -44,9 +44,9 @@
 
 /* The version of this header and of the library beside it. */
 #define SULYTEROM_VERSION_MAJOR 0
-#define SULYTEROM_VERSION_MINOR 7
+#define SULYTEROM_VERSION_MINOR 8
 #define SULYTEROM_VERSION_PATCH 0
-#define SULYTEROM_VERSION_TEXT "0.7.0"
+#define SULYTEROM_VERSION_TEXT "0.8.0"
 
 #ifdef __cplusplus
 extern "C" {
@@ -301,9 +301,10 @@ uint8_t sulyterom_storage(const uint8_t *source, size_t source_length, uint32_t 
    declaration on the way from i to j does not. A global row names an earlier place, so i depends on earlier places
    only: all that depend on j are found by asking of each place behind it. The source is loaded first.
 
-   Yes: returns 0 and leaves in answer 1, the number of a row of i that names a place that shows j, 0; which of them
-   is left open, and the place need not be j. No: returns 0 and leaves 0, 0, 0. After both the tables hold what
-   loading leaves.
+   Yes: returns 0 and leaves in answer 1, the number of the first row of i that names a place that shows j, 0. The
+   first is the one with the lowest number, which stands first in the source, in the type before the body. The place
+   need not be j, even where a later row names j itself. No: returns 0 and leaves 0, 0, 0. After both the tables hold
+   what loading leaves.
 
    Refused, by loading or, after it, since i or j is not the place of a declaration (12, without a place): returns the
    class, with the answer and the tables as sulyterom_load leaves them. */
@@ -470,7 +471,7 @@ typedef struct sulyterom_dependence {
     int has_offset;
     size_t offset;
     int yes;    /* whether i depends on j */
-    size_t row; /* of i, a global row that names a place that shows j, if so */
+    size_t row; /* if so, the first global row of i that names a place that shows j, as sulyterom_depends has it */
 } sulyterom_dependence;
 
 /* What sulyterom_binder_in answers. */
@@ -601,7 +602,7 @@ static inline sulyterom_needs sulyterom_storage_of(const uint8_t *source, size_t
     return told;
 }
 
-/* As sulyterom_depends. */
+/* As sulyterom_depends: of several rows the first is shown. */
 static inline sulyterom_dependence sulyterom_depends_in(const uint8_t *source, size_t source_length, size_t i, size_t j,
                                                         const sulyterom_tables *tables) {
     uint64_t answer[SULYTEROM_ANSWER_WORDS] = {0, 0, 0};

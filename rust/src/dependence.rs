@@ -6,8 +6,8 @@ use crate::{Loaded, Refusal, Tables};
 #[derive(Clone, Copy, Debug)]
 #[must_use]
 pub struct Dependence<'a> {
-    /// For a yes, a global row in `i`'s type or body that names a place that shows `j`. The place need not be `j`, and which
-    /// of several such rows it is is left open.
+    /// For a yes, the first global row in `i`'s type or body that names a place that shows `j`: of all that do the one with
+    /// the lowest number, in the type before the body. The place need not be `j`, even where a later row names `j` itself.
     pub row: Option<usize>,
     /// What was loaded.
     pub loaded: Loaded<'a>,

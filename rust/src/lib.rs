@@ -180,6 +180,9 @@ fn room(source: &[u8]) -> usize {
 /// not. A global row names an earlier place, so `i` depends on earlier places only.
 /// [`Loader::dependents`] lists all that depend on one.
 ///
+/// A yes shows the first row of `i` that names a place that shows `j`: the one with the lowest number, in the type before the
+/// body, whether or not it names `j` itself.
+///
 /// The source is loaded first, and a yes or a no leaves the tables as [`load`] does: the answer shows both.
 ///
 /// # Errors
@@ -190,14 +193,17 @@ fn room(source: &[u8]) -> usize {
 /// ```
 /// use sulyterom::{Class, Tables, depends};
 ///
-/// let source = b"(surface 0 1)(module m)(postulate x nat)(opaque y nat (ref x))(transparent z nat (ref y))";
+/// let source = b"(surface 0 1)(module m)(postulate x nat)(opaque y nat (ref x))(transparent z nat (ref y))\
+///     (postulate w (pi _ (ref z) (ref y)))";
 /// let mut tables = Tables::for_bytes(source.len());
 /// assert_eq!(depends(source, 1, 0, &mut tables)?.row, Some(2));
 /// // row 4 names y, whose body is opaque: it shows y, and not x
 /// assert_eq!(depends(source, 2, 1, &mut tables)?.row, Some(4));
 /// let no = depends(source, 2, 0, &mut tables)?;
-/// assert_eq!((no.row, no.loaded.declaration_count()), (None, 3));
-/// assert_eq!(depends(source, 0, 3, &mut tables).unwrap_err().class, Class::NoDeclaration);
+/// assert_eq!((no.row, no.loaded.declaration_count()), (None, 4));
+/// // row 5 names z, whose body names y, and row 6 y itself: the first of them is shown
+/// assert_eq!(depends(source, 3, 1, &mut tables)?.row, Some(5));
+/// assert_eq!(depends(source, 0, 4, &mut tables).unwrap_err().class, Class::NoDeclaration);
 /// # Ok::<(), sulyterom::Refusal>(())
 /// ```
 pub fn depends<'a, W>(

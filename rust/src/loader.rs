@@ -75,7 +75,16 @@ impl Loader {
         })
     }
 
-    /// Asks whether the declaration at place `i` depends on the one at place `j`, as [`depends`](crate::depends) does.
+    /// Asks whether the declaration at place `i` depends on the one at place `j`, and for the first row by which it does, as
+    /// [`depends`](crate::depends) does.
+    ///
+    /// ```
+    /// # use sulyterom::Loader;
+    /// // z depends on x by row 2, which names y, and by row 3, which names x itself
+    /// let source = b"(surface 0 1)(module m)(postulate x nat)(postulate y (ref x))(opaque z (ref y) (ref x))";
+    /// assert_eq!(Loader::new().depends(source, 2, 0)?.row, Some(2));
+    /// # Ok::<(), sulyterom::Refusal>(())
+    /// ```
     ///
     /// # Errors
     ///
