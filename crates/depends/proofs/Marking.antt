@@ -1,4 +1,4 @@
--- What is marked and found in the tables of a loaded source is what the definition marks and finds.
+-- In the tables of a loaded source the places that show j are marked, and what is found then is the first mention.
 use mathlib.Core.Path.{_≡_, refl, sym, ap, _∙_}
 use mathlib.Core.Bool.{Bool, true, false, _&&_, _||_, cond}
 use mathlib.Core.List.{List, [], _∷_}
