@@ -15,7 +15,8 @@ use Rattle.surface.specs.Grammar.{Tokens, Closes, Tag, Terms, no-term, l
 use Rattle.surface.specs.Reader.{Position, done}
 use Rattle.surface.specs.Reading.{leaf, frame, store, finish, several, term, closing, beginning}
 use Rattle.surface.proofs.Frames.{Within, within-rest}
-use Rattle.surface.proofs.Shaped.{CountedEdition, counts, tag-counts, terms-count}
+use Rattle.surface.proofs.Editions.{CountedEdition, counts}
+use Rattle.surface.proofs.Shaped.{tag-counts, terms-count}
 use Rattle.surface.proofs.Takes.{after-go, require-go, to, first-token, other-tokens, closing-takes, begins-leaf, begins-ref, begins-universe, begins-binding, begins-plain}
 
 grows : (n : ℕ) (f : Forest Label) → n ≤ next n f

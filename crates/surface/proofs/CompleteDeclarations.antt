@@ -18,7 +18,7 @@ use Rattle.surface.specs.Reader.{Position, start, Result, done, Reader}
 use Rattle.surface.specs.Reading.{name, several, term, closing, declaration-kind, beginning, body, declared, declaration, ending, onwards, declarations}
 use Rattle.surface.proofs.Frames.{frames-of, deepest, within}
 use Rattle.surface.proofs.Steps.{after-elim, done-inj}
-use Rattle.surface.proofs.Shaped.{CountedEdition}
+use Rattle.surface.proofs.Editions.{CountedEdition}
 use Rattle.surface.proofs.Takes.{after-go, to, first-token, other-tokens, token-takes, closing-takes, atom-takes, name-takes}
 use Rattle.surface.proofs.Complete.{terms-go}
 

@@ -1,8 +1,7 @@
 -- A module that the grammar derives is read, where there is room; so the grammar derives one module at most.
 use mathlib.Core.Path.{_≡_, refl, sym, ap, _∙_, subst}
 use mathlib.Core.List.{List, [], _∷_}
-use mathlib.Core.Option.{Option, none, some}
-use mathlib.Core.Bool.{true, false, _&&_}
+use mathlib.Core.Option.{Option, some}
 use Prim.Native.Nat.{ℕ, _≤_, max}
 use native.Mathlib.Omega.{arith}
 use lib.ListN.{length}
@@ -10,17 +9,16 @@ use Rattle.token.specs.Token.{next-token}
 use Rattle.token.specs.declared.Token.{Token}
 use Rattle.token.specs.declared.Lexed.{Lexed}
 use Rattle.words.specs.Words.{ascii, all, numeral}
-use Rattle.words.proofs.Names.{eq-same}
-use Rattle.terms.specs.Forms.{Edition, edition-0-1}
+use Rattle.terms.specs.Forms.{Edition}
 use Rattle.terms.specs.Label.{Declaration}
 use Rattle.terms.proofs.Widths.{total}
 use Rattle.surface.specs.Text.{text}
-use Rattle.surface.specs.Grammar.{Tokens, the-next, Word, Numeral, Version, version-0-1, Head, head, Derives}
+use Rattle.surface.specs.Grammar.{Tokens, the-next, Word, Numeral, Version, version-0-1, version-0-2, Head, head, Derives}
 use Rattle.surface.specs.Reader.{Position, start, done}
 use Rattle.surface.specs.Reading.{name, declarations, edition-of, supported, surface-line, module-line, head as head-reader, read-module}
 use Rattle.surface.proofs.Frames.{deepest}
 use Rattle.surface.proofs.Steps.{done-inj}
-use Rattle.surface.proofs.Shaped.{version-tokens, head-tokens, head-counted}
+use Rattle.surface.proofs.Editions.{version-edition, version-meets, head-meets}
 use Rattle.surface.proofs.Takes.{after-go, to, opening-takes, closing-takes, word-takes, natural-takes, name-takes}
 use Rattle.surface.proofs.Runs.{Run, run-end, run-more, first-of, others-of, end-of}
 use Rattle.surface.proofs.CompleteDeclarations.{declarations-go}
@@ -34,12 +32,13 @@ one-numeral : (s : List ℕ) (t : Token) → Word s (ascii "1") t → Numeral s 
 unfolding numeral all
 one-numeral s t w = record { atom = w .atom; is = ap numeral (w .is) }
 
+two-numeral : (s : List ℕ) (t : Token) → Word s (ascii "2") t → Numeral s t
+unfolding numeral all
+two-numeral s t w = record { atom = w .atom; is = ap numeral (w .is) }
+
 pub version-numerals : {s : List ℕ} {a b : Token} {E : Edition} → Version s a b E → Numeral s a × Numeral s b
 version-numerals {s} {a} {b} (version-0-1 v w) = (zero-numeral s a v, one-numeral s b w)
-
-pub version-edition : {s : List ℕ} {a b : Token} {E : Edition} → Version s a b E → edition-of (text s a) (text s b) ≡ some E
-unfolding edition-of
-version-edition {s} {a} {b} (version-0-1 v w) = λ j. elim (eq-same _ _ (v .is) j && eq-same _ _ (w .is) j) as (λ _. Option Edition) [ true ↦ some edition-0-1 | false ↦ none ]
+version-numerals {s} {a} {b} (version-0-2 v w) = (zero-numeral s a v, two-numeral s b w)
 
 supported-goes : (o : Option Edition) (E : Edition) (p : Position) → o ≡ some E → supported o p ≡ done E p
 unfolding supported
@@ -69,7 +68,7 @@ head-reads {s} (head {o = o} {w = w} {v₀ = a} {v₁ = b} {c = c} {p = u} {m = 
     (after-go _ _ x (to p d) _
     (after-go _ _ u (to p u) _ (opening-takes (next-token s) (to p c) u (first-of k₆) o₆)
     (after-go _ _ m (to p m) _ (word-takes (next-token s) s (ascii "module") (to p u) m (first-of k₇) o₇)
-    (after-go _ _ x (to p x) _ (name-takes E s (to p m) x (ap (λ (T : List ℕ → ℕ → Lexed). T s (m .end)) (version-tokens v) ∙ first-of k₈) o₈)
+    (after-go _ _ x (to p x) _ (name-takes E s (to p m) x (ap (λ (T : List ℕ → ℕ → Lexed). T s (m .end)) (version-meets v .tokens) ∙ first-of k₈) o₈)
     (after-go _ _ d (to p d) _ (closing-takes (next-token s) (to p x) d (first-of k₉) o₉) refl))))
     (ap (λ (n : ℕ). done (record { edition = E; name = x }) (record { offset = n; rows = p .rows })) (end-of (others-of k₉))))
 
@@ -103,7 +102,7 @@ unfolding read-module
 complete s limit room frames ds d i f h =
     let a = head-goes (d .head) 0 (d .lexed) in
     let p : Position = record { offset = a .end; rows = 0 } in
-    let g = declarations-go (d .edition) s (head-counted (d .head)) limit frames (d .declarations) room p (subst (λ (T : List ℕ → ℕ → Lexed). Tokens (T s) (a .end) (d .rest)) (sym (head-tokens (d .head))) (a .left)) i f h in
+    let g = declarations-go (d .edition) s (head-meets (d .head) .counted) limit frames (d .declarations) room p (subst (λ (T : List ℕ → ℕ → Lexed). Tokens (T s) (a .end) (d .rest)) (sym (head-meets (d .head) .tokens)) (a .left)) i f h in
     record {
       position = g .position;
       reads = after-go _ _ (record { edition = d .edition; name = d .name }) p _ (head-reads (a .derived) start (a .end) (a .run)) (g .reads);

@@ -1,6 +1,7 @@
 pub mod Starred
 pub mod Steps
 pub mod Takes
+pub mod Editions
 pub mod Shaped
 pub mod TokenSizes
 pub mod Frames
@@ -17,5 +18,6 @@ pub mod Demand
 pub mod Offsets
 pub mod Points
 pub mod KeptLengths
+pub mod Arrows
 pub mod Reports
 pub mod Statements

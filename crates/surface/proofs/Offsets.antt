@@ -1,7 +1,7 @@
 -- Document 02, Req 01: the eighth words of the rows are where the terms begin.
 use mathlib.Core.Path.{_≡_, refl, sym, ap, _∙_, subst}
 use mathlib.Core.List.{List, [], _∷_, map}
-use mathlib.Core.Bool.{Bool, true}
+use mathlib.Core.Bool.{true}
 use Prim.Native.Nat.{ℕ, zero, suc, _-_}
 use native.Mathlib.Omega.{arith}
 use lib.ListN.{length, take, drop}
@@ -9,9 +9,8 @@ use Rattle.token.specs.Token.{next-token}
 use Rattle.token.specs.declared.Token.{Token}
 use Rattle.token.specs.declared.Lexed.the-variants.{Got}
 use Rattle.token.proofs.Parentheses.{open-here}
-use Rattle.words.specs.Words.{same-bytes}
 use Rattle.words.proofs.Names.{same-eq}
-use Rattle.terms.specs.Forms.{Shape, alone, with-name, with-numeral, binding, plain, Form, forms, Edition, edition-0-1, form-of-kind}
+use Rattle.terms.specs.Forms.{Shape, alone, with-name, with-numeral, binding, plain, Form, Edition}
 use Rattle.terms.specs.Tree.{Forest}
 use Rattle.terms.specs.Label.{part, Label, Declaration}
 use Rattle.terms.specs.Offsets.{eighth-word, begins-with, first-bytes, TermsBegin, ModuleBegins}
@@ -19,27 +18,18 @@ use Rattle.terms.proofs.FormTable.{every, of-word, word-is}
 use Rattle.terms.proofs.Offsets.{surface-offsets, core-offsets}
 use Rattle.surface.specs.declared.Answer.the-variants.{Loaded}
 use Rattle.surface.specs.Text.{text}
-use Rattle.surface.specs.Grammar.{Tokens, the-next, Opens, Tag, Terms, no-term, leaf-term, ref-term, universe-term, binding-term, plain-term, Declarations, no-declaration, postulate, transparent, opaque, Version, version-0-1, Head, head, Derives}
+use Rattle.surface.specs.Grammar.{Tokens, the-next, Opens, Tag, Terms, no-term, leaf-term, ref-term, universe-term, binding-term, plain-term, Declarations, no-declaration, postulate, transparent, opaque, Head, head, Derives}
 use Rattle.surface.specs.Reader.{start, Result, done, refused}
 use Rattle.surface.specs.Loading.{Lengths, lengths, loading, Outcome, outcome, load}
 use Rattle.surface.specs.SameCore.{Accepts}
 use Rattle.surface.specs.Statements.{RowsBegin, RowOffsets}
+use Rattle.surface.proofs.Editions.{told, version-meets}
 use Rattle.surface.proofs.Acceptance.{is-read, is-loaded}
 use Rattle.surface.proofs.Demand.{stands}
 
 -- What each form of an edition begins with is told by its kind.
-abbrev told : Form → Bool
-told f = same-bytes (first-bytes (f .kind)) (begins-with (f .shape) (f .word))
-
 abbrev Told : Edition → Type 0
 Told E = every told (E .forms) ≡ true
-
-told-0-1 : Told edition-0-1
-unfolding edition-0-1 first-bytes form-of-kind forms same-bytes
-told-0-1 = refl
-
-edition-told : (s : List ℕ) (a b : Token) (E : Edition) → Version s a b E → Told E
-edition-told s a b E (version-0-1 x y) = told-0-1
 
 -- As many bytes as there are.
 take-own : (n : ℕ) (l w : List ℕ) → take n l ≡ w → take (length w) l ≡ w
@@ -104,7 +94,7 @@ module _ (s : List ℕ) where
     declarations-begin (opaque o t x b c r) k = let v = terms-begin b (k .1 .1 .1) in (v .0, declarations-begin r (v .1 .1))
 
   rest-begins : {ts us : List Token} {E : Edition} {x : Token} {ds : List Declaration} → Head s ts E x us → Lexed ts → Declarations E s us ds → ModuleBegins s ds
-  rest-begins {E = E} (head o w v c p m n d) k r = declarations-begin E (edition-told s _ _ E v) r (k .1 .1 .1 .1 .1 .1 .1 .1 .1)
+  rest-begins {E = E} (head o w v c p m n d) k r = declarations-begin E (version-meets v .told) r (k .1 .1 .1 .1 .1 .1 .1 .1 .1)
 
   module-begins : (ds : List Declaration) → Derives s ds → ModuleBegins s ds
   module-begins ds d = rest-begins (d .head) (all-lexed 0 (d .tokens) (d .lexed)) (d .declarations)

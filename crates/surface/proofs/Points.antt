@@ -5,10 +5,10 @@ use Prim.Native.Nat.{ℕ, zero, suc}
 use Prim.Native.String.{String}
 use lib.ListN.{length}
 use Rattle.token.specs.Token.{byte-class, layout-end, atom-from, token-here, next-token}
-use Rattle.words.specs.Words.{ascii, same-bytes, reserved-words, place-in, word-index, reserved, all, identifier, numeral}
+use Rattle.words.specs.Words.{ascii, same-bytes, reserved-words, place-in, word-index, reserved, reserved-0-2, all, identifier, numeral}
 use Rattle.utf8.specs.Utf8.{table-3-7, following, valid-from, valid-length, byte-order-mark}
-use Rattle.terms.specs.Forms.{forms, edition-0-1, form-of-word, form-of-kind, holds-span-in}
-use Rattle.terms.specs.Resolution.{find, core-of, first-unknown, first-refused}
+use Rattle.terms.specs.Forms.{forms, forms-0-2, edition-0-1, edition-0-2, form-of-word, form-of-kind, holds-span-in}
+use Rattle.terms.specs.Resolution.{find, find-local, core-of, first-unknown, first-refused}
 use Rattle.terms.specs.Label.{Declaration}
 use Rattle.surface.specs.declared.Answer.{Answer}
 use Rattle.surface.specs.declared.Answer.the-variants.{Loaded, Refused}
@@ -16,6 +16,10 @@ use Rattle.surface.specs.Reader.{start, Result, done, refused, nowhere, 
 use Rattle.surface.specs.Reading.{store, finish, several, term, token, opening, closing, atom, word, natural, declaration-kind, name, bare, tagged, known, beginning-on, beginning, body, declared, declaration, ending, onwards, declarations, edition-of, supported, surface-line, module-line, head, read-module}
 use Rattle.surface.specs.Loading.{Lengths, parsing, reading, loading, load}
 use Rattle.surface.specs.Card.{H, listing-lengths}
+
+-- The same as H of edition 0 2.
+abbrev pub H2 : String → List ℕ
+H2 w = ascii "(surface 0 2)(module m)" ++ ascii w
 
 pub record Point : Type 0 where
   pub lent : Lengths
@@ -101,11 +105,28 @@ points =
     point generous (ascii "(surface 0 a)") (at 1 11) ∷
     point generous (ascii "(surface 01 1)") (at 1 9) ∷
     point generous (ascii "(surface 0 2]") (at 1 12) ∷
-    point generous (ascii "(surface 0 2)") (no-place 2) ∷
+    point generous (ascii "(surface 0 2)") (at 1 13) ∷
+    point generous (ascii "(surface 0 3)") (no-place 2) ∷
+    point generous (ascii "(surface 1 2)") (no-place 2) ∷
     point generous (ascii "(surface 0 2)" ++ (255 ∷ [])) (at 1 13) ∷
     point generous (ascii "(surface 0 10)") (no-place 2) ∷
     point generous (ascii "(surface 0 1)(module nat)") (at 3 21) ∷
     point generous (H "(postulate a (arrow nat nat))") (at 1 37) ∷
+    -- an arrow in either edition
+    point generous (H "(postulate arrow (pi arrow nat (ref arrow)))") (Loaded 3 1) ∷
+    point generous (ascii "(surface 0 1)(module arrow)") (Loaded 0 0) ∷
+    point generous (ascii "(surface 0 2)(module arrow)") (at 3 21) ∷
+    point generous (H2 "") (Loaded 0 0) ∷
+    point generous (H2 "(postulate arrow nat)") (at 3 34) ∷
+    point generous (H2 "(postulate a (pi arrow nat nat))") (at 3 40) ∷
+    point generous (H2 "(postulate a (ref arrow))") (at 3 41) ∷
+    point generous (H2 "(postulate a arrow)") (at 1 36) ∷
+    point generous (H2 "(postulate a (arrow x nat nat))") (at 1 43) ∷
+    point generous (H2 "(postulate a (arrow nat))") (at 1 46) ∷
+    point generous (H2 "(postulate a (arrow nat nat nat))") (at 1 51) ∷
+    point generous (H2 "(postulate a (arrow nat nat))") (Loaded 3 1) ∷
+    point generous (H2 "(postulate a (arrow nat (ref x)))") (no-place 5) ∷
+    point no-row (H2 "(postulate a (arrow nat") (no-place 8) ∷
     -- scope
     point generous (H "(transparent a nat (ref a))") (no-place 5) ∷
     point generous (H "(postulate a (ref a))") (no-place 5) ∷
@@ -116,7 +137,7 @@ points =
     []
 
 pub readings : map (λ p. load (p .source) (p .lent) .answer) points ≡ map (λ p. p .gives) points
-unfolding byte-class layout-end atom-from token-here next-token same-bytes reserved-words place-in word-index reserved all identifier numeral table-3-7 following valid-from valid-length byte-order-mark forms edition-0-1 form-of-word form-of-kind holds-span-in find core-of first-unknown first-refused store finish several term token opening closing atom word natural declaration-kind name bare tagged known beginning-on beginning body declared declaration ending onwards declarations edition-of supported surface-line module-line head read-module parsing reading loading load
+unfolding byte-class layout-end atom-from token-here next-token same-bytes reserved-words place-in word-index reserved reserved-0-2 all identifier numeral table-3-7 following valid-from valid-length byte-order-mark forms forms-0-2 edition-0-1 edition-0-2 form-of-word form-of-kind holds-span-in find find-local core-of first-unknown first-refused store finish several term token opening closing atom word natural declaration-kind name bare tagged known beginning-on beginning body declared declaration ending onwards declarations edition-of supported surface-line module-line head read-module parsing reading loading load
 readings = refl
 
 -- The answer of reading alone, where so many frames may be open in one term.
@@ -153,6 +174,8 @@ depths =
     depth 0 (H "(postulate a (pi x") (no-place 7) ∷
     depth 0 (H "(postulate a (fst") (no-place 7) ∷
     depth 0 (H "(postulate a (fst]") (at 1 40) ∷
+    depth 0 (H2 "(postulate a (arrow") (no-place 7) ∷
+    depth 0 (H2 "(postulate a (arrow]") (at 1 42) ∷
     depth 0 (H "(postulate a (universe 1))") (Loaded 1 1) ∷
     depth 0 (H "(postulate a star)") (Loaded 1 1) ∷
     depth 8 (nested 8 "star") (Loaded 9 1) ∷
@@ -161,5 +184,5 @@ depths =
     []
 
 pub open-frames : map (λ d. with-frames (d .frames) (d .source)) depths ≡ map (λ d. d .gives) depths
-unfolding byte-class layout-end atom-from token-here next-token same-bytes reserved-words place-in word-index reserved all identifier numeral forms edition-0-1 form-of-word store finish several term token opening closing atom word natural declaration-kind name bare tagged known beginning-on beginning body declared declaration ending onwards declarations edition-of supported surface-line module-line head read-module
+unfolding byte-class layout-end atom-from token-here next-token same-bytes reserved-words place-in word-index reserved reserved-0-2 all identifier numeral forms forms-0-2 edition-0-1 edition-0-2 form-of-word store finish several term token opening closing atom word natural declaration-kind name bare tagged known beginning-on beginning body declared declaration ending onwards declarations edition-of supported surface-line module-line head read-module
 open-frames = refl

@@ -1,37 +1,22 @@
 -- What the grammar derives has the shape of a module: each term has as many arguments as its kind wants.
 use mathlib.Core.Path.{_≡_, refl, sym, ap, _∙_, subst}
 use mathlib.Core.List.{List, map}
-use mathlib.Core.Bool.{Bool, true, _&&_, and-eq-true-iff}
+use mathlib.Core.Bool.{true, and-eq-true-iff}
 use Prim.Native.Nat.{ℕ, suc, _≤_}
 use native.Mathlib.Decide.{ℕ-discrete}
 use native.Mathlib.Omega.{arith}
-use lib.Dec.{leb, ltb, eqb}
+use lib.Dec.{leb, eqb}
 use borrow.Author.Tests.{leb-true, eqb-true}
-use Rattle.token.specs.Token.{next-token}
 use Rattle.token.specs.declared.Token.{Token}
-use Rattle.terms.specs.Forms.{Shape, alone, with-name, with-numeral, binding, plain, Form, forms, Edition, edition-0-1, form-of-kind, arity-of}
+use Rattle.terms.specs.Forms.{Shape, alone, with-name, with-numeral, binding, plain, Form, Edition, arity-of}
 use Rattle.terms.specs.Tree.{Forest, relabel, count}
 use Rattle.terms.specs.Label.{Label, Declaration, named, named-declaration}
 use Rattle.terms.proofs.Cells.{count-relabel}
-use Rattle.terms.proofs.FormTable.{every, of-word}
+use Rattle.terms.proofs.FormTable.{of-word}
 use Rattle.terms.proofs.NamedModule.{Shaped, ShapedModule}
 use Rattle.surface.specs.Text.{text}
-use Rattle.surface.specs.Grammar.{Tag, Terms, no-term, leaf-term, ref-term, universe-term, binding-term, plain-term, Declarations, no-declaration, postulate, transparent, opaque, Version, version-0-1, Head, head, Derives}
-
--- A leaf has no argument, and what opens a frame has some.
-abbrev pub counts : Shape → ℕ → Bool
-counts alone n = eqb n 0
-counts with-name n = eqb n 0
-counts with-numeral n = eqb n 0
-counts binding n = ltb 0 n
-counts plain n = ltb 0 n
-
-abbrev pub counted-form : Form → Bool
-counted-form f = counts (f .shape) (f .arity)
-
--- That is so of a form, its kind is no core kind, and it is the form of its kind.
-abbrev pub good-form : Form → Bool
-good-form f = counted-form f && (leb 3 (f .kind) && eqb (arity-of (f .kind)) (f .arity))
+use Rattle.surface.specs.Grammar.{Tag, Terms, no-term, leaf-term, ref-term, universe-term, binding-term, plain-term, Declarations, no-declaration, postulate, transparent, opaque, Derives}
+use Rattle.surface.proofs.Editions.{counts, counted-form, good-form, CountedEdition, GoodEdition, head-meets}
 
 pub record Good (f : Form) : Type 0 where
   pub counted : counts (f .shape) (f .arity) ≡ true
@@ -43,43 +28,6 @@ good-is f e =
     let a = and-eq-true-iff (counts (f .shape) (f .arity)) _ .0 e in
     let b = and-eq-true-iff (leb 3 (f .kind)) _ .0 (a .1) in
     record { counted = a .0; low = leb-true 3 (f .kind) (b .0); arities = eqb-true (arity-of (f .kind)) (f .arity) (b .1) }
-
--- An edition whose forms all have as many arguments as their shapes want.
-abbrev pub CountedEdition : Edition → Type 0
-CountedEdition E = every counted-form (E .forms) ≡ true
-
--- An edition whose forms are all good.
-abbrev pub GoodEdition : Edition → Type 0
-GoodEdition E = every good-form (E .forms) ≡ true
-
-counted-0-1 : CountedEdition edition-0-1
-unfolding edition-0-1 forms
-counted-0-1 = refl
-
-good-0-1 : GoodEdition edition-0-1
-unfolding edition-0-1 forms arity-of form-of-kind
-good-0-1 = refl
-
--- Each edition that a head can name is.
-pub version-counted : {s : List ℕ} {v₀ v₁ : Token} {E : Edition} → Version s v₀ v₁ E → CountedEdition E
-version-counted (version-0-1 a b) = counted-0-1
-
-pub version-good : {s : List ℕ} {v₀ v₁ : Token} {E : Edition} → Version s v₀ v₁ E → GoodEdition E
-version-good (version-0-1 a b) = good-0-1
-
--- Its tokens are those of a source.
-pub version-tokens : {s : List ℕ} {v₀ v₁ : Token} {E : Edition} → Version s v₀ v₁ E → E .tokens ≡ next-token
-unfolding edition-0-1
-version-tokens (version-0-1 a b) = refl
-
-pub head-tokens : {s : List ℕ} {ts us : List Token} {E : Edition} {x : Token} → Head s ts E x us → E .tokens ≡ next-token
-head-tokens (head o w v c p m x d) = version-tokens v
-
-pub head-counted : {s : List ℕ} {ts us : List Token} {E : Edition} {x : Token} → Head s ts E x us → CountedEdition E
-head-counted (head o w v c p m x d) = version-counted v
-
-pub head-good : {s : List ℕ} {ts us : List Token} {E : Edition} {x : Token} → Head s ts E x us → GoodEdition E
-head-good (head o w v c p m x d) = version-good v
 
 -- n terms are n.
 pub terms-count : {E : Edition} {s : List ℕ} {n : ℕ} {ts us : List Token} {f : Forest Label} → Terms E s n ts f us → count f ≡ n
@@ -124,4 +72,4 @@ module _ (E : Edition) (s : List ℕ) (good : GoodEdition E) where
   declarations-shaped (opaque o w x d c k) = (refl, terms-shaped d, declarations-shaped k)
 
 pub shaped : (s : List ℕ) (ds : List Declaration) → Derives s ds → ShapedModule (map (named-declaration s) ds)
-shaped s ds d = declarations-shaped (d .edition) s (head-good (d .head)) (d .declarations)
+shaped s ds d = declarations-shaped (d .edition) s (head-meets (d .head) .good) (d .declarations)

@@ -2,8 +2,9 @@
 use mathlib.Core.Path.{_≡_, refl, sym, ap, _∙_, subst}
 use mathlib.Core.List.{List, [], _∷_, _++_}
 use mathlib.Core.Option.{Option, none, some}
-use mathlib.Core.Bool.{Bool, true, false, _&&_}
+use mathlib.Core.Bool.{Bool, true, false, _&&_, cond, and-eq-true-iff}
 use Prim.Native.Nat.{ℕ, _≤_}
+use Prim.Native.String.{String}
 use native.Mathlib.Omega.{arith}
 use lib.ListN.{length}
 use Rattle.token.specs.Token.{next-token}
@@ -11,15 +12,16 @@ use Rattle.token.specs.declared.Token.{Token}
 use Rattle.token.specs.declared.Lexed.{Lexed}
 use Rattle.words.specs.Words.{ascii, same-bytes}
 use Rattle.words.proofs.Names.{same-eq}
-use Rattle.terms.specs.Forms.{Edition, edition-0-1}
+use Rattle.terms.specs.Forms.{Edition, edition-0-1, edition-0-2}
 use Rattle.terms.specs.Label.{Declaration}
+use Rattle.terms.proofs.Names.{none-some, some-inj}
 use Rattle.terms.proofs.Widths.{total}
 use Rattle.surface.specs.Text.{text}
-use Rattle.surface.specs.Grammar.{Tokens, Numeral, Version, version-0-1, Head, head, Derives}
+use Rattle.surface.specs.Grammar.{Tokens, Word, Numeral, Version, version-0-1, version-0-2, Head, head, Derives}
 use Rattle.surface.specs.Reader.{Position, start, done}
 use Rattle.surface.specs.Reading.{opening, closing, word, natural, name, declarations, Head as HeadRead, edition-of, supported, surface-line, module-line, head as head-reader, read-module}
 use Rattle.surface.proofs.Frames.{deepest}
-use Rattle.surface.proofs.Shaped.{version-tokens}
+use Rattle.surface.proofs.Editions.{version-meets}
 use Rattle.surface.proofs.Steps.{Took, no-done, after-elim, done-inj, done-as, open-goes, close-goes, atom-goes, same-rows, opening-done, closing-done, word-done, natural-done, name-done}
 use Rattle.surface.proofs.Runs.{Run, run-end, run-before, run-tokens}
 use Rattle.surface.proofs.SoundDeclarations.{declarations-done}
@@ -27,13 +29,20 @@ use Rattle.surface.proofs.SoundDeclarations.{declarations-done}
 -- An edition that reading supports is the grammar's.
 pub edition-is : (s : List ℕ) (a b : Token) (E : Edition) → edition-of (text s a) (text s b) ≡ some E → Numeral s a → Numeral s b → Version s a b E
 unfolding edition-of
-edition-is s a b E e m n = go (same-bytes (text s a) (ascii "0")) (same-bytes (text s b) (ascii "1")) refl refl e
+edition-is s a b E e m n = go (by-bytes "1") (by-bytes "2") refl refl e
   where
-    go : (x y : Bool) → same-bytes (text s a) (ascii "0") ≡ x → same-bytes (text s b) (ascii "1") ≡ y
-        → elim (x && y) as (λ _. Option Edition) [ true ↦ some edition-0-1 | false ↦ none ] ≡ some E → Version s a b E
-    go true true p q f = subst (λ (F : Edition). Version s a b F) (cc) (version-0-1 (record { atom = m .atom; is = same-eq _ _ p }) (record { atom = n .atom; is = same-eq _ _ q }))
-    go true false p q f = absurd (let z : _≡_ {A = ℕ} 0 1 = cc in omega arith)
-    go false y p q f = absurd (let z : _≡_ {A = ℕ} 0 1 = cc in omega arith)
+    by-bytes : String → Bool
+    by-bytes w = same-bytes (text s a) (ascii "0") && same-bytes (text s b) (ascii w)
+
+    words : (w : String) → by-bytes w ≡ true → Word s (ascii "0") a × Word s (ascii w) b
+    words w p =
+        let h = and-eq-true-iff (same-bytes (text s a) (ascii "0")) (same-bytes (text s b) (ascii w)) .0 p in
+        (record { atom = m .atom; is = same-eq _ _ (h .0) }, record { atom = n .atom; is = same-eq _ _ (h .1) })
+
+    go : (x y : Bool) → by-bytes "1" ≡ x → by-bytes "2" ≡ y → cond x (some edition-0-1) (cond y (some edition-0-2) none) ≡ some E → Version s a b E
+    go true y p q f = let w = words "1" p in subst (λ (F : Edition). Version s a b F) (some-inj f) (version-0-1 (w .0) (w .1))
+    go false true p q f = let w = words "2" q in subst (λ (F : Edition). Version s a b F) (some-inj f) (version-0-2 (w .0) (w .1))
+    go false false p q f = none-some f
 
 pub supported-done : {P : Type 0} (o : Option Edition) (p q : Position) (E : Edition) → supported o p ≡ done E q → (o ≡ some E → p ≡ q → P) → P
 unfolding supported
@@ -76,7 +85,7 @@ head-done s p q h e =
     let i₃ = name-done E s r₂ r₃ y k₃ in
     let i₄ = closing-done (next-token s) r₃ r₅ d k₄ in
     let v₁ = edition-is s a b E v (o₃ .1) (o₄ .1) in
-    let i₅ : Took (next-token s) r₂ y r₃ = subst (λ (T : List ℕ → ℕ → Lexed). Took (T s) r₂ y r₃) (version-tokens v₁) (i₃ .0) in
+    let i₅ : Took (next-token s) r₂ y r₃ = subst (λ (T : List ℕ → ℕ → Lexed). Took (T s) r₂ y r₃) (version-meets v₁ .tokens) (i₃ .0) in
     done-as (HeadDone s p) e₂ (done-as (λ x r. HeadDone s p (record { edition = E; name = x }) r) l₄ (record {
       nine = o ∷ w ∷ a ∷ b ∷ c ∷ u ∷ m ∷ y ∷ d ∷ [];
       run =
@@ -87,7 +96,7 @@ head-done s p q h e =
       derived = head (o₁ .1) (o₂ .1) v₁ (o₅ .1) (i₁ .1) (i₂ .1) (i₃ .1) (i₄ .1);
       rows = same-rows (next-token s) r₃ r₅ d (i₄ .0) ∙ same-rows (next-token s) r₂ r₃ y i₅ ∙ same-rows (next-token s) r₁ r₂ m (i₂ .0) ∙ same-rows (next-token s) q₁ r₁ u (i₁ .0) ∙ ap (λ (r : Position). r .rows) (sym j)
           ∙ same-rows (next-token s) p₄ p₅ c (o₅ .0) ∙ same-rows (next-token s) p₃ p₄ b (o₄ .0) ∙ same-rows (next-token s) p₂ p₃ a (o₃ .0) ∙ same-rows (next-token s) p₁ p₂ w (o₂ .0) ∙ same-rows (next-token s) p p₁ o (o₁ .0);
-      tokens = version-tokens v₁;
+      tokens = version-meets v₁ .tokens;
     }))))))))))))))
 
 -- A module, where there is room for so many rows and declarations, and so many frames may be open in one term.

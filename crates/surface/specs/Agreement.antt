@@ -5,7 +5,7 @@ use Rattle.terms.specs.Label.{Declaration, named-declaration}
 use Rattle.terms.specs.Agreement.{AgreeModule}
 use Rattle.surface.specs.Grammar.{Derives}
 
--- Each source is a module, and the two modules agree, declaration by declaration and place by place.
+-- Each source is a module, of either edition, and the two modules agree, declaration by declaration and place by place.
 -- "Binder names otherwise, layout, comments and the module name play no part."
 pub record Agreement (s t : List ℕ) : Type 0 where
   pub one : List Declaration

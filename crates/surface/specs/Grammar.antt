@@ -1,4 +1,4 @@
--- Document 01, "The module read": which tokens are a module, a declaration, a term, production by production.
+-- Document 01, "The module read", and document 02, Req 10: which tokens are a module, a declaration, a term, production by production.
 use mathlib.Core.Path.{_≡_}
 use mathlib.Core.List.{List, [], _∷_}
 use mathlib.Core.Option.{none, some}
@@ -10,7 +10,7 @@ use Rattle.token.specs.declared.Token.{Token}
 use Rattle.token.specs.declared.Lexed.{Lexed}
 use Rattle.token.specs.declared.Lexed.the-variants.{Got}
 use Rattle.words.specs.Words.{ascii, identifier, numeral}
-use Rattle.terms.specs.Forms.{Shape, alone, with-name, with-numeral, binding, plain, Form, Edition, edition-0-1, form-of-word}
+use Rattle.terms.specs.Forms.{Shape, alone, with-name, with-numeral, binding, plain, Form, Edition, edition-0-1, edition-0-2, form-of-word}
 use Rattle.terms.specs.Tree.{Forest, nil, node, Tree, tree}
 use Rattle.terms.specs.Label.{Label, Declaration}
 use Rattle.surface.specs.Text.{text, label-with, label-alone}
@@ -97,19 +97,20 @@ pub data Declarations (E : Edition) (s : List ℕ) : List Token → List Declara
       → Declarations E s us ds
       → Declarations E s (o ∷ t ∷ x ∷ ts) (record { kind = 3; start = x .start; length = x .end - x .start; type = a; body = some b } ∷ ds)
 
--- The two numerals of an edition: 0 1.
+-- The two numerals of an edition: 0 1, or 0 2.
 pub data Version (s : List ℕ) (v₀ v₁ : Token) : Edition → Type 0 where
   version-0-1 : Word s (ascii "0") v₀ → Word s (ascii "1") v₁ → Version s v₀ v₁ edition-0-1
+  version-0-2 : Word s (ascii "0") v₀ → Word s (ascii "2") v₁ → Version s v₀ v₁ edition-0-2
 
 -- `Head s ts E x us`: the tokens ts begin with the head, which gives the edition E and the module's name x, and us follows it.
 pub data Head (s : List ℕ) : List Token → Edition → Token → List Token → Type 0 where
-  -- `(surface 0 1)`, `(module NAME)`
+  -- `(surface 0 1)` or `(surface 0 2)`, `(module NAME)`
   head : {o w v₀ v₁ c p m x d : Token} {ts : List Token} {E : Edition}
       → Opens o → Word s (ascii "surface") w → Version s v₀ v₁ E → Closes c
       → Opens p → Word s (ascii "module") m → Name E s x → Closes d
       → Head s (o ∷ w ∷ v₀ ∷ v₁ ∷ c ∷ p ∷ m ∷ x ∷ d ∷ ts) E x ts
 
--- The source s is a module with the declarations ds: "`(surface 0 1)`, `(module NAME)`, then declarations".
+-- The source s is a module of either edition with the declarations ds: "`(surface 0 1)`, `(module NAME)`, then declarations".
 pub record Derives (s : List ℕ) (ds : List Declaration) : Type 0 where
   pub tokens : List Token
   pub lexed : Tokens (next-token s) 0 tokens

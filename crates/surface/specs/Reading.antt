@@ -1,7 +1,7 @@
--- Document 01, "The module read" and "When nothing is loaded": reading order, as a plain recursive reader.
+-- Document 01, "The module read" and "When nothing is loaded", and document 02, Req 10: reading order, as a plain recursive reader.
 use mathlib.Core.List.{List, [], _∷_}
 use mathlib.Core.Option.{Option, none, some}
-use mathlib.Core.Bool.{Bool, true, false, not, _&&_}
+use mathlib.Core.Bool.{Bool, true, false, not, _&&_, cond}
 use Prim.Native.Nat.{ℕ, zero, suc, _-_}
 use lib.Dec.{ltb}
 use Rattle.token.specs.Token.{next-token}
@@ -10,7 +10,7 @@ use Rattle.token.specs.declared.Token.{Token}
 use Rattle.token.specs.declared.Lexed.{Lexed}
 use Rattle.token.specs.declared.Lexed.the-variants.{Got, Refused}
 use Rattle.words.specs.Words.{ascii, same-bytes, identifier, numeral}
-use Rattle.terms.specs.Forms.{Shape, alone, with-name, with-numeral, binding, plain, Form, Edition, edition-0-1, form-of-word}
+use Rattle.terms.specs.Forms.{Shape, alone, with-name, with-numeral, binding, plain, Form, Edition, edition-0-1, edition-0-2, form-of-word}
 use Rattle.terms.specs.Tree.{Forest, nil, Tree, tree}
 use Rattle.terms.specs.Label.{Label, Declaration}
 use Rattle.surface.specs.Text.{text, label-with, label-alone, is-open, is-close, is-atom, is-end}
@@ -216,17 +216,19 @@ pub record Head : Type 0 where
   pub edition : Edition
   pub name : Token
 
--- The edition of two numerals: 0 1.
+-- The edition of two numerals: 0 1, or 0 2.
 unfoldable pub edition-of : List ℕ → List ℕ → Option Edition
-edition-of a b = elim (same-bytes a (ascii "0") && same-bytes b (ascii "1")) [ true ↦ some edition-0-1 | false ↦ none ]
+edition-of a b =
+    cond (same-bytes a (ascii "0") && same-bytes b (ascii "1")) (some edition-0-1)
+    (cond (same-bytes a (ascii "0") && same-bytes b (ascii "2")) (some edition-0-2) none)
 
--- "2 version other than 0 1, nowhere, given after its closing parenthesis"
+-- "Refusal 2 is now for source versions other than 0 1 and 0 2": "nowhere, given after its closing parenthesis"
 unfoldable pub supported : Option Edition → Reader Edition
 supported none = refuse (nowhere 2)
 supported (some E) = pure E
 
 module _ (s : List ℕ) where
-  -- `(surface 0 1)`
+  -- `(surface 0 1)` or `(surface 0 2)`
   unfoldable pub surface-line : Reader Edition
   surface-line = do
     o ← opening (next-token s)

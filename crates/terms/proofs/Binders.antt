@@ -3,18 +3,18 @@ use mathlib.Core.Path.{_≡_, refl, sym, ap, _∙_}
 use mathlib.Core.Logic.{_⊎_, inl, inr, _↔_, ite, if-pos, if-neg, by-cases}
 use mathlib.Core.List.{List, [], _∷_, _++_, map, head-eq-of-cons-eq, tail-eq-of-cons-eq, nil≢cons}
 use mathlib.Core.Option.{Option, none, some}
-use mathlib.Core.Bool.{Bool, true, false, _&&_, _||_, cond, and-eq-true-iff}
+use mathlib.Core.Bool.{Bool, true, false, _&&_, _||_, cond, and-eq-true-iff, true≢false}
 use Prim.Native.Nat.{ℕ, suc, _+_, _≤_}
 use native.Mathlib.Omega.{arith}
 use native.Mathlib.Nat.{suc-inj}
 use lib.ListN.{length}
 use lib.Dec.{eqb, eqb→eq}
 use Rattle.terms.specs.Tree.{Place, then, maybe, pick, at}
-use Rattle.terms.specs.Forms.{pi, lam, sigma}
+use Rattle.terms.specs.Forms.{pi, lam, sigma, arrow}
 use Rattle.terms.specs.Label.{Name, Named, Term}
 use Rattle.terms.specs.Agreement.{Covers, Around, BoundBy, Free, SameRef, Alike, Agree}
-use Rattle.terms.specs.Resolution.{covers}
-use Rattle.terms.proofs.Names.{none-some, some-inj, same?}
+use Rattle.terms.specs.Resolution.{covers, bound-name}
+use Rattle.terms.proofs.Names.{none-some, some-inj, called?}
 
 -- The test of resolution is what agreement says.
 eqb-to : (m n : ℕ) → eqb m n ≡ true → m ≡ n
@@ -24,35 +24,47 @@ or-to : (a b : Bool) → a || b ≡ true → (a ≡ true) ⊎ (b ≡ true)
 or-to true b e = inl refl
 or-to false b e = inr e
 
-covers-to : (k i : ℕ) → covers k i ≡ true → Covers k i
-covers-to k i e = go (or-to ((eqb k pi || eqb k sigma) && eqb i 1) (eqb k lam && eqb i 0) e)
+-- A kind that gives a name is no arrow, and the name is the term's.
+named-by : (k : ℕ) (x n : Name) → some x ≡ bound-name k n → (eqb k arrow ≡ false) × (x ≡ n)
+named-by k x n e = go (eqb k arrow) refl e
   where
-    arm : (eqb k pi ≡ true) ⊎ (eqb k sigma ≡ true) → (k ≡ pi) ⊎ (k ≡ sigma)
-    arm (inl a) = inl (eqb-to k pi a)
-    arm (inr a) = inr (eqb-to k sigma a)
+    go : (b : Bool) → eqb k arrow ≡ b → some x ≡ cond b none (some n) → (eqb k arrow ≡ false) × (x ≡ n)
+    go true a f = none-some (sym f)
+    go false a f = (a, some-inj f)
 
-    go : ((eqb k pi || eqb k sigma) && eqb i 1 ≡ true) ⊎ (eqb k lam && eqb i 0 ≡ true) → Covers k i
-    go (inl a) = let w = and-eq-true-iff (eqb k pi || eqb k sigma) (eqb i 1) .0 a in inl (arm (or-to (eqb k pi) (eqb k sigma) (w .0)), eqb-to i 1 (w .1))
+covers-to : (k i : ℕ) → eqb k arrow ≡ false → covers k i ≡ true → Covers k i
+covers-to k i n e = go (or-to (((eqb k pi || eqb k sigma) || eqb k arrow) && eqb i 1) (eqb k lam && eqb i 0) e)
+  where
+    pair : (eqb k pi ≡ true) ⊎ (eqb k sigma ≡ true) → (k ≡ pi) ⊎ (k ≡ sigma)
+    pair (inl a) = inl (eqb-to k pi a)
+    pair (inr a) = inr (eqb-to k sigma a)
+
+    arm : (eqb k pi || eqb k sigma ≡ true) ⊎ (eqb k arrow ≡ true) → (k ≡ pi) ⊎ (k ≡ sigma)
+    arm (inl a) = pair (or-to (eqb k pi) (eqb k sigma) a)
+    arm (inr a) = absurd (true≢false (sym a ∙ n))
+
+    go : (((eqb k pi || eqb k sigma) || eqb k arrow) && eqb i 1 ≡ true) ⊎ (eqb k lam && eqb i 0 ≡ true) → Covers k i
+    go (inl a) = let w = and-eq-true-iff ((eqb k pi || eqb k sigma) || eqb k arrow) (eqb i 1) .0 a in inl (arm (or-to (eqb k pi || eqb k sigma) (eqb k arrow) (w .0)), eqb-to i 1 (w .1))
     go (inr a) = let w = and-eq-true-iff (eqb k lam) (eqb i 0) .0 a in inr (eqb-to k lam (w .0), eqb-to i 0 (w .1))
 
 -- Where it holds k and i are numerals, and the test computes.
-covers-from : (k i : ℕ) → Covers k i → covers k i ≡ true
-covers-from k i (inl (inl a, b)) = rw (a, b)
-covers-from k i (inl (inr a, b)) = rw (a, b)
-covers-from k i (inr (a, b)) = rw (a, b)
+covers-from : (k i : ℕ) (n : Name) → Covers k i → (some n ≡ bound-name k n) × (covers k i ≡ true)
+covers-from k i n (inl (inl a, b)) = rw (a, b) (refl, refl)
+covers-from k i n (inl (inr a, b)) = rw (a, b) (refl, refl)
+covers-from k i n (inr (a, b)) = rw (a, b) (refl, refl)
 
 pub record Binder : Type 0 where
-  pub called : Name
+  pub called : Option Name
   pub place : Place
 
 abbrev pub down : ℕ → Binder → Binder
 down i b = record { called = b .called; place = i ∷ b .place }
 
--- The term itself, if it binds its name in its argument i.
+-- The term itself, if it counts in its argument i.
 abbrev pub own : Named → ℕ → List Binder
-own l i = cond (covers (l .kind) i) (record { called = l .name; place = [] } ∷ []) []
+own l i = cond (covers (l .kind) i) (record { called = bound-name (l .kind) (l .name); place = [] } ∷ []) []
 
--- The pi, sigma and lam terms in whose codomain or body a place stands, innermost first.
+-- The pi, sigma, lam and arrow terms in whose codomain or body a place stands, innermost first; an arrow has no name.
 abbrev pub scope : Place → Term → List Binder
 scope [] t = []
 scope (i ∷ p) t = maybe (pick (t .args) i) [] (λ u. map (down i) (scope p u) ++ own (t .label) i)
@@ -60,7 +72,7 @@ scope (i ∷ p) t = maybe (pick (t .args) i) [] (λ u. map (down i) (scope p u) 
 -- The place of the innermost of them that has a given name.
 abbrev pub first : Name → List Binder → Option Place
 first x [] = none
-first x (b ∷ bs) = ite (same? x (b .called)) (some (b .place)) (first x bs)
+first x (b ∷ bs) = ite (called? x (b .called)) (some (b .place)) (first x bs)
 
 -- The place of what binds the name x at the place p of t.
 abbrev pub binder-place : Name → Place → Term → Option Place
@@ -74,11 +86,11 @@ SameFirst t u p x y =
 abbrev pub AgreeFirst : Term → Term → Type 0
 AgreeFirst t u = (p : Place) → Alike (SameFirst t u p) (at p t) (at p u)
 
-pub first-yes : (x : Name) (b : Binder) (s : List Binder) → x ≡ b .called → first x (b ∷ s) ≡ some (b .place)
-first-yes x b s e = if-pos (same? x (b .called)) e _ _
+pub first-yes : (x : Name) (b : Binder) (s : List Binder) → some x ≡ b .called → first x (b ∷ s) ≡ some (b .place)
+first-yes x b s e = if-pos (called? x (b .called)) e _ _
 
-pub first-no : (x : Name) (b : Binder) (s : List Binder) → ¬ (x ≡ b .called) → first x (b ∷ s) ≡ first x s
-first-no x b s e = if-neg (same? x (b .called)) e _ _
+pub first-no : (x : Name) (b : Binder) (s : List Binder) → ¬ (some x ≡ b .called) → first x (b ∷ s) ≡ first x s
+first-no x b s e = if-neg (called? x (b .called)) e _ _
 
 -- One step down.
 around-in : (t u : Term) (x : Name) (i : ℕ) (p q : Place) → pick (t .args) i ≡ some u → Around u x p q → Around t x (i ∷ p) (i ∷ q)
@@ -107,25 +119,25 @@ around-out t u x i j p q e h =
 
 pub first-down : (x : Name) (i : ℕ) (s o : List Binder) → first x (map (down i) s ++ o) ≡ maybe (first x s) (first x o) (λ q. some (i ∷ q))
 first-down x i [] o = refl
-first-down x i (b ∷ s) o = go (first-down x i s o) (same? x (b .called))
+first-down x i (b ∷ s) o = go (first-down x i s o) (called? x (b .called))
   where
-    go : first x (map (down i) s ++ o) ≡ maybe (first x s) (first x o) (λ q. some (i ∷ q)) → Dec (x ≡ b .called)
+    go : first x (map (down i) s ++ o) ≡ maybe (first x s) (first x o) (λ q. some (i ∷ q)) → Dec (some x ≡ b .called)
         → first x (map (down i) (b ∷ s) ++ o) ≡ maybe (first x (b ∷ s)) (first x o) (λ q. some (i ∷ q))
     go ih (yes e) = first-yes x (down i b) (map (down i) s ++ o) e ∙ ap (λ (r : Option Place). maybe r (first x o) (λ q. some (i ∷ q))) (sym (first-yes x b s e))
     go ih (no e) = first-no x (down i b) (map (down i) s ++ o) e ∙ ih ∙ ap (λ (r : Option Place). maybe r (first x o) (λ q. some (i ∷ q))) (sym (first-no x b s e))
 
 -- A term's own binder.
-own-some : (x : Name) (l : Named) (i : ℕ) (q : Place) → first x (own l i) ≡ some q → (q ≡ []) × (x ≡ l .name) × (covers (l .kind) i ≡ true)
+own-some : (x : Name) (l : Named) (i : ℕ) (q : Place) → first x (own l i) ≡ some q → (q ≡ []) × (some x ≡ bound-name (l .kind) (l .name)) × (covers (l .kind) i ≡ true)
 own-some x l i q e = go (covers (l .kind) i) refl e
   where
-    go : (c : Bool) → covers (l .kind) i ≡ c → first x (cond c (record { called = l .name; place = [] } ∷ []) []) ≡ some q → (q ≡ []) × (x ≡ l .name) × (covers (l .kind) i ≡ true)
-    go true k f = by-cases (same? x (l .name))
-        (λ y. (cc (first-yes x (record { called = l .name; place = [] }) [] y), y, k))
-        (λ n. none-some (sym (first-no x (record { called = l .name; place = [] }) [] n) ∙ f))
+    go : (c : Bool) → covers (l .kind) i ≡ c → first x (cond c (record { called = bound-name (l .kind) (l .name); place = [] } ∷ []) []) ≡ some q → (q ≡ []) × (some x ≡ bound-name (l .kind) (l .name)) × (covers (l .kind) i ≡ true)
+    go true k f = by-cases (called? x (bound-name (l .kind) (l .name)))
+        (λ y. (cc (first-yes x (record { called = bound-name (l .kind) (l .name); place = [] }) [] y), y, k))
+        (λ n. none-some (sym (first-no x (record { called = bound-name (l .kind) (l .name); place = [] }) [] n) ∙ f))
     go false k f = none-some f
 
-own-none : (x : Name) (l : Named) (i : ℕ) → first x (own l i) ≡ none → x ≡ l .name → covers (l .kind) i ≡ true → ⊥
-own-none x l i e y k = none-some (sym e ∙ ap (λ (c : Bool). first x (cond c (record { called = l .name; place = [] } ∷ []) [])) k ∙ first-yes x (record { called = l .name; place = [] }) [] y)
+own-none : (x : Name) (l : Named) (i : ℕ) → first x (own l i) ≡ none → some x ≡ bound-name (l .kind) (l .name) → covers (l .kind) i ≡ true → ⊥
+own-none x l i e y k = none-some (sym e ∙ ap (λ (c : Bool). first x (cond c (record { called = bound-name (l .kind) (l .name); place = [] } ∷ []) [])) k ∙ first-yes x (record { called = bound-name (l .kind) (l .name); place = [] }) [] y)
 
 Says : Term → Name → Place → Type 0
 Says t x p = ((q : Place) → binder-place x p t ≡ some q → BoundBy t x p q) × (binder-place x p t ≡ none → Free t x p)
@@ -135,11 +147,12 @@ not-nil [] i l e = nil≢cons e
 not-nil (j ∷ q) i l e = nil≢cons e
 
 -- Around a place of an argument stand the term itself, perhaps, and what stands around in the argument.
-around-top : (t : Term) (x : Name) (i : ℕ) (p : Place) → Around t x (i ∷ p) [] → (x ≡ t .label .name) × (covers (t .label .kind) i ≡ true)
+around-top : (t : Term) (x : Name) (i : ℕ) (p : Place) → Around t x (i ∷ p) [] → (some x ≡ bound-name (t .label .kind) (t .label .name)) × (covers (t .label .kind) i ≡ true)
 around-top t x i p h =
     let w : t ≡ h .binder = some-inj (h .stands) in
     let j : i ≡ h .argument = head-eq-of-cons-eq (h .reached) in
-    (h .same-name ∙ ap (λ (u : Term). u .label .name) (sym w), covers-from (t .label .kind) i (rw (w, j) (h .covered)))
+    let c = covers-from (t .label .kind) i (t .label .name) (rw (w, j) (h .covered)) in
+    (ap {B = Option Name} some (h .same-name ∙ ap (λ (u : Term). u .label .name) (sym w)) ∙ c .0, c .1)
 
 step-some : (t u : Term) (x : Name) (i : ℕ) (p q : Place) → pick (t .args) i ≡ some u → BoundBy u x p q → BoundBy t x (i ∷ p) (i ∷ q)
 step-some t u x i p q k h = record { around = around-in t u x i p q k (h .around); innermost = most }
@@ -148,9 +161,9 @@ step-some t u x i p q k h = record { around = around-in t u x i p q k (h .around
     most [] a = omega arith
     most (j ∷ r) a = omega (arith, h .innermost r (around-out t u x i j p r k a))
 
-step-own : (t u : Term) (x : Name) (i : ℕ) (p : Place) → pick (t .args) i ≡ some u → Free u x p → x ≡ t .label .name → covers (t .label .kind) i ≡ true → BoundBy t x (i ∷ p) []
+step-own : (t u : Term) (x : Name) (i : ℕ) (p : Place) → pick (t .args) i ≡ some u → Free u x p → some x ≡ bound-name (t .label .kind) (t .label .name) → covers (t .label .kind) i ≡ true → BoundBy t x (i ∷ p) []
 step-own t u x i p k h n c = record {
-  around = record { binder = t; stands = refl; same-name = n; argument = i; below = p; reached = refl; covered = covers-to (t .label .kind) i c };
+  around = record { binder = t; stands = refl; same-name = named-by (t .label .kind) x (t .label .name) n .1; argument = i; below = p; reached = refl; covered = covers-to (t .label .kind) i (named-by (t .label .kind) x (t .label .name) n .0) c };
   innermost = most;
 }
   where

@@ -9,7 +9,7 @@ use lib.Dec.{leb, eqb}
 use borrow.Author.Tests.{leb-true}
 use Rattle.words.specs.Words.{ascii, same-bytes}
 use Rattle.words.proofs.Names.{same-eq}
-use Rattle.terms.specs.Forms.{Shape, alone, with-name, with-numeral, binding, plain, Form, forms, universe, ref, form-of-word, form-of-kind, arity-of, has-atom}
+use Rattle.terms.specs.Forms.{Shape, alone, with-name, with-numeral, binding, plain, Form, forms, forms-0-2, universe, ref, form-of-word, form-of-kind, arity-of, has-atom}
 use Rattle.terms.proofs.Names.{none-some, some-inj}
 
 -- Each form of a list passes a test.
@@ -44,17 +44,17 @@ word-is w (h ∷ l) f e = go (word-is w l f) (same-bytes w (h .word)) refl e
     go ih false q e = ih e
 
 -- No form has more than six arguments.
-all-small : every (λ f. leb (f .arity) 6) forms ≡ true
-unfolding forms
+all-small : every (λ f. leb (f .arity) 6) forms-0-2 ≡ true
+unfolding forms forms-0-2
 all-small = refl
 
 pub arity-small : (k : ℕ) → arity-of k ≤ 6
 unfolding arity-of
-arity-small k = go (form-of-kind k forms) refl
+arity-small k = go (form-of-kind k forms-0-2) refl
   where
-    go : (o : Option Form) → form-of-kind k forms ≡ o → elim o as (λ _. ℕ) [ none ↦ 0 | some f ↦ f .arity ] ≤ 6
+    go : (o : Option Form) → form-of-kind k forms-0-2 ≡ o → elim o as (λ _. ℕ) [ none ↦ 0 | some f ↦ f .arity ] ≤ 6
     go none e = omega arith
-    go (some f) e = leb-true (f .arity) 6 (of-kind (λ f. leb (f .arity) 6) k forms f all-small e)
+    go (some f) e = leb-true (f .arity) 6 (of-kind (λ f. leb (f .arity) 6) k forms-0-2 f all-small e)
 
 -- A row has room for what each form keeps: the start and length of its atom, and its arguments' rows.
 pub fields-fit : every (λ f. leb (cond (has-atom (f .shape)) (f .arity + 2) (f .arity)) 6) forms ≡ true
@@ -63,26 +63,26 @@ fields-fit = refl
 
 -- What is compared or replaced by its atom has no arguments.
 pub arity-universe : arity-of universe ≡ 0
-unfolding arity-of form-of-kind forms
+unfolding arity-of form-of-kind forms forms-0-2
 arity-universe = refl
 
 pub arity-ref : arity-of ref ≡ 0
-unfolding arity-of form-of-kind forms
+unfolding arity-of form-of-kind forms forms-0-2
 arity-ref = refl
 
--- The table against document 01's other sentence: "Kinds: .. universe 3, pi 4, lam 5, .. ann 23, ref 24".
+-- The table against document 01's other sentence, "Kinds: .. universe 3, pi 4, lam 5, .. ann 23, ref 24", and document 02's, "surface kind 25".
 abbrev word-of-kind : ℕ → List ℕ
-word-of-kind k = elim (form-of-kind k forms) [ none ↦ [] | some f ↦ f .word ]
+word-of-kind k = elim (form-of-kind k forms-0-2) [ none ↦ [] | some f ↦ f .word ]
 
 abbrev words-from : ℕ → ℕ → List (List ℕ)
 words-from k zero = []
 words-from k (suc n) = word-of-kind k ∷ words-from (suc k) n
 
-pub kinds-in-order : words-from 3 22 ≡
+pub kinds-in-order : words-from 3 23 ≡
     ascii "universe" ∷ ascii "pi" ∷ ascii "lam" ∷ ascii "app" ∷ ascii "sigma" ∷ ascii "pair" ∷ ascii "fst" ∷ ascii "snd" ∷ ascii "id" ∷
     ascii "refl" ∷ ascii "j" ∷ ascii "empty" ∷ ascii "empty-elim" ∷ ascii "unit" ∷ ascii "star" ∷ ascii "unit-elim" ∷ ascii "nat" ∷
-    ascii "zero" ∷ ascii "succ" ∷ ascii "nat-elim" ∷ ascii "ann" ∷ ascii "ref" ∷ []
-unfolding form-of-kind forms
+    ascii "zero" ∷ ascii "succ" ∷ ascii "nat-elim" ∷ ascii "ann" ∷ ascii "ref" ∷ ascii "arrow" ∷ []
+unfolding form-of-kind forms forms-0-2
 kinds-in-order = refl
 
 -- "One argument: `fst snd refl succ`; two: `app pair empty-elim ann`; three: `id unit-elim`; four: `nat-elim`; six: `j`."

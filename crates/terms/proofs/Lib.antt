@@ -1,6 +1,7 @@
 pub mod Mistaken
 pub mod Names
 pub mod FormTable
+pub mod Arrow
 pub mod Cells
 pub mod Binders
 pub mod NamedCore

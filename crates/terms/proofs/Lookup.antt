@@ -5,19 +5,18 @@ use mathlib.Core.Option.{Option, none, some}
 use Prim.Native.Nat.{ℕ, suc, _+_}
 use native.Mathlib.Omega.{arith}
 use lib.ListN.{length}
-use Rattle.words.proofs.Names.{eq-same, ne-same}
 use Rattle.terms.specs.Label.{Name}
-use Rattle.terms.specs.Resolution.{next-number, find, Core, var, global as global-core, unknown as unknown-core, referent}
-use Rattle.terms.proofs.Names.{same?, find-yes, find-no}
+use Rattle.terms.specs.Resolution.{next-number, find-local, Core, var, global as global-core, unknown as unknown-core, referent}
+use Rattle.terms.proofs.Names.{called?, is-called, not-called, local-yes, local-no}
 use Rattle.terms.specs.Lookup.{Local, Found, found, next-found, lookup, Referent, local, global, unknown, refers}
 
-pub lookup-yes : (x : Name) (y : Local) (l : List Local) → x ≡ y .name → lookup x (y ∷ l) ≡ some (found 0 (y .row))
+pub lookup-yes : (x : Name) (y : Local) (l : List Local) → some x ≡ y .name → lookup x (y ∷ l) ≡ some (found 0 (y .row))
 unfolding lookup
-lookup-yes x y l e = rw (eq-same x (y .name) e, lookup) refl
+lookup-yes x y l e = rw (is-called x (y .name) e, lookup) refl
 
-pub lookup-no : (x : Name) (y : Local) (l : List Local) → ¬ (x ≡ y .name) → lookup x (y ∷ l) ≡ next-found (lookup x l)
+pub lookup-no : (x : Name) (y : Local) (l : List Local) → ¬ (some x ≡ y .name) → lookup x (y ∷ l) ≡ next-found (lookup x l)
 unfolding lookup
-lookup-no x y l e = rw (ne-same x (y .name) e, lookup) refl
+lookup-no x y l e = rw (not-called x (y .name) e, lookup) refl
 
 abbrev pub count-of : Option Found → Option ℕ
 count-of none = none
@@ -28,14 +27,14 @@ count-next none = refl
 count-next (some f) = refl
 
 -- "The lookup of a name shall give, beside its count, ..": the count is resolution's.
-pub lookup-count : (x : Name) (l : List Local) → count-of (lookup x l) ≡ find x (map (λ y. y .name) l)
-unfolding lookup find
+pub lookup-count : (x : Name) (l : List Local) → count-of (lookup x l) ≡ find-local x (map (λ y. y .name) l)
+unfolding lookup find-local
 lookup-count x [] = refl
-lookup-count x (y ∷ l) = go (lookup-count x l) (same? x (y .name))
+lookup-count x (y ∷ l) = go (lookup-count x l) (called? x (y .name))
   where
-    go : count-of (lookup x l) ≡ find x (map (λ y. y .name) l) → Dec (x ≡ y .name) → count-of (lookup x (y ∷ l)) ≡ find x (map (λ y. y .name) (y ∷ l))
-    go ih (yes e) = ap count-of (lookup-yes x y l e) ∙ sym (find-yes x (y .name) (map (λ y. y .name) l) e)
-    go ih (no e) = ap count-of (lookup-no x y l e) ∙ count-next (lookup x l) ∙ ap next-number ih ∙ sym (find-no x (y .name) (map (λ y. y .name) l) e)
+    go : count-of (lookup x l) ≡ find-local x (map (λ y. y .name) l) → Dec (some x ≡ y .name) → count-of (lookup x (y ∷ l)) ≡ find-local x (map (λ y. y .name) (y ∷ l))
+    go ih (yes e) = ap count-of (lookup-yes x y l e) ∙ sym (local-yes x (y .name) (map (λ y. y .name) l) e)
+    go ih (no e) = ap count-of (lookup-no x y l e) ∙ count-next (lookup x l) ∙ ap next-number ih ∙ sym (local-no x (y .name) (map (λ y. y .name) l) e)
 
 -- What resolution makes of a reference.
 abbrev pub as-core : Referent → Core
@@ -56,9 +55,9 @@ behind n (some f) = some (found (n + f .count) (f .row))
 pub lookup-some : (x : Name) (l m : List Local) (f : Found) → lookup x l ≡ some f → lookup x (l ++ m) ≡ some f
 unfolding lookup
 lookup-some x [] m f e = absurd (let z : _≡_ {A = ℕ} 0 1 = cc in omega arith)
-lookup-some x (y ∷ l) m f e = go (lookup-some x l m) (lookup x l) refl (same? x (y .name))
+lookup-some x (y ∷ l) m f e = go (lookup-some x l m) (lookup x l) refl (called? x (y .name))
   where
-    go : ((f : Found) → lookup x l ≡ some f → lookup x (l ++ m) ≡ some f) → (o : Option Found) → lookup x l ≡ o → Dec (x ≡ y .name) → lookup x (y ∷ (l ++ m)) ≡ some f
+    go : ((f : Found) → lookup x l ≡ some f → lookup x (l ++ m) ≡ some f) → (o : Option Found) → lookup x l ≡ o → Dec (some x ≡ y .name) → lookup x (y ∷ (l ++ m)) ≡ some f
     go ih o q (yes d) = lookup-yes x y (l ++ m) d ∙ sym (lookup-yes x y l d) ∙ e
     go ih none q (no d) = absurd (let h = sym e ∙ lookup-no x y l d ∙ ap next-found q in let z : _≡_ {A = ℕ} 0 1 = cc in omega arith)
     go ih (some h) q (no d) = lookup-no x y (l ++ m) d ∙ ap next-found (ih h q) ∙ sym (ap next-found q) ∙ sym (lookup-no x y l d) ∙ e
@@ -70,13 +69,13 @@ lookup-none x [] m e = go (lookup x m)
     go : (o : Option Found) → o ≡ behind 0 o
     go none = refl
     go (some f) = ap (λ (c : ℕ). some (found c (f .row))) (let q : f .count ≡ 0 + f .count = omega arith in q)
-lookup-none x (y ∷ l) m e = go (lookup-none x l m) (lookup x l) refl (same? x (y .name))
+lookup-none x (y ∷ l) m e = go (lookup-none x l m) (lookup x l) refl (called? x (y .name))
   where
     more : (o : Option Found) → next-found (behind (length l) o) ≡ behind (suc (length l)) o
     more none = refl
     more (some f) = ap (λ (c : ℕ). some (found c (f .row))) (let q : suc (length l + f .count) ≡ suc (length l) + f .count = omega arith in q)
 
-    go : (lookup x l ≡ none → lookup x (l ++ m) ≡ behind (length l) (lookup x m)) → (o : Option Found) → lookup x l ≡ o → Dec (x ≡ y .name) → lookup x (y ∷ (l ++ m)) ≡ behind (suc (length l)) (lookup x m)
+    go : (lookup x l ≡ none → lookup x (l ++ m) ≡ behind (length l) (lookup x m)) → (o : Option Found) → lookup x l ≡ o → Dec (some x ≡ y .name) → lookup x (y ∷ (l ++ m)) ≡ behind (suc (length l)) (lookup x m)
     go ih o q (yes d) = absurd (let h = sym e ∙ lookup-yes x y l d in let z : _≡_ {A = ℕ} 0 1 = cc in omega arith)
     go ih none q (no d) = lookup-no x y (l ++ m) d ∙ ap next-found (ih q) ∙ more (lookup x m)
     go ih (some h) q (no d) = absurd (let k = sym e ∙ lookup-no x y l d ∙ ap next-found q in let z : _≡_ {A = ℕ} 0 1 = cc in omega arith)

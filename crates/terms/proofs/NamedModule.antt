@@ -11,11 +11,12 @@ use lib.ListN.{length, length-map}
 use Rattle.terms.specs.Forms.{ref, arity-of}
 use Rattle.terms.specs.Tree.{Forest, nil, node, tree, maybe, cells, next, roots, count}
 use Rattle.terms.specs.Label.{Name, Named, Terms, NamedDeclaration}
-use Rattle.terms.specs.Resolution.{find}
+use Rattle.terms.specs.Resolution.{Locals, find, find-local}
 use Rattle.terms.specs.Rows.{pad}
 use Rattle.terms.specs.Content.{RowContent, RecordContent}
 use Rattle.terms.proofs.FormTable.{arity-ref}
 use Rattle.terms.proofs.Cells.{split, next-cells, next-roots, length-roots}
+use Rattle.terms.proofs.Arrow.{arity-counts, low-counts}
 use Rattle.terms.proofs.NamedCore.{NamedCore, found, core-at, core-at-ref, core-at-form, inner, core, is-known, known, known-node, count-core}
 use Rattle.terms.proofs.CoreRows.{pad-inj, row, rows, Fits, AllFit, terms-inj}
 
@@ -69,12 +70,12 @@ found-fits (some i) b h = refl
 found-fits none (some j) h = refl
 found-fits none none h = let z : _≡_ {A = ℕ} 0 1 = cc in omega arith
 
-core-at-fits : (l g : List Name) (t : Named) (c : ℕ) → is-known (core-at l g t) ≡ true → 3 ≤ t .kind → c ≡ arity-of (t .kind) → Fits (core-at l g t) c
+core-at-fits : (l : Locals) (g : List Name) (t : Named) (c : ℕ) → is-known (core-at l g t) ≡ true → 3 ≤ t .kind → c ≡ arity-of (t .kind) → Fits (core-at l g t) c
 core-at-fits l g t c h j e = by-cases (ℕ-discrete (t .kind) ref)
-    (λ r. rw (core-at-ref l g t r, e, r, arity-ref) (found-fits (find (t .name) l) (find (t .name) g) (rw (core-at-ref l g t r) at h)))
-    (λ r. rw (core-at-form l g t r) (j, e))
+    (λ r. rw (core-at-ref l g t r, e, r, arity-ref) (found-fits (find-local (t .name) l) (find (t .name) g) (rw (core-at-ref l g t r) at h)))
+    (λ r. rw (core-at-form l g t r) (low-counts (t .kind) j, e ∙ sym (arity-counts (t .kind))))
 
-pub core-fits : (e : ℕ → List Name) (g : List Name) (s : Terms) → Shaped s → known e g s ≡ true → AllFit (core e g s)
+pub core-fits : (e : ℕ → Locals) (g : List Name) (s : Terms) → Shaped s → known e g s ≡ true → AllFit (core e g s)
 core-fits e g nil w h = tt
 core-fits e g (node l a r) w h =
     let k = known-node e g l a r h in

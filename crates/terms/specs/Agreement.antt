@@ -1,20 +1,20 @@
--- Document 01, "The core module": what binds a reference, and when terms and declarations agree.
+-- Document 01, "The core module", and document 02, Req 10: what binds a reference, and when terms and declarations agree.
 use mathlib.Core.Path.{_≡_}
 use mathlib.Core.Logic.{_⊎_}
 use mathlib.Core.List.{List, [], _∷_, _++_}
 use mathlib.Core.Option.{Option, none, some}
 use Prim.Native.Nat.{ℕ, _≤_}
 use lib.ListN.{length}
-use Rattle.terms.specs.Forms.{universe, pi, lam, sigma, ref}
+use Rattle.terms.specs.Forms.{universe, pi, lam, sigma, ref, counts-as}
 use Rattle.terms.specs.Tree.{Place, at}
 use Rattle.terms.specs.Label.{Name, Term, NamedDeclaration}
 
--- The form, if a term stands there.
+-- The form, if a term stands there: "an arrow agrees in form with a pi".
 abbrev pub form-at : Option Term → Option ℕ
 form-at none = none
-form-at (some a) = some (a .label .kind)
+form-at (some a) = some (counts-as (a .label .kind))
 
--- "in whose codomain or body": argument 1 of pi and sigma, argument 0 of lam.
+-- "in whose codomain or body": argument 1 of pi and sigma, argument 0 of lam. An arrow binds no name, and is none of these.
 abbrev pub Covers : ℕ → ℕ → Type 0
 Covers k i = (((k ≡ pi) ⊎ (k ≡ sigma)) × (i ≡ 1)) ⊎ ((k ≡ lam) × (i ≡ 0))
 

@@ -1,12 +1,12 @@
--- Document 01, "The module read": the forms of terms as one table, and the kinds' numbers.
+-- Document 01, "The module read", and document 02, Req 10: the forms of terms as one table, and the kinds' numbers.
 use mathlib.Core.List.{List, [], _∷_}
 use mathlib.Core.Option.{Option, none, some}
-use mathlib.Core.Bool.{Bool, true, false}
+use mathlib.Core.Bool.{Bool, true, false, cond}
 use Prim.Native.Nat.{ℕ}
 use lib.Dec.{eqb}
 use Rattle.token.specs.Token.{next-token}
 use Rattle.token.specs.declared.Lexed.{Lexed}
-use Rattle.words.specs.Words.{ascii, same-bytes, reserved}
+use Rattle.words.specs.Words.{ascii, same-bytes, reserved, reserved-0-2}
 
 -- "Kinds: var 1, global 2, universe 3, pi 4, lam 5, .. sigma 7, .. ref 24": those that a definition speaks of by name.
 abbrev pub var-kind : ℕ
@@ -29,6 +29,14 @@ sigma = 7
 
 abbrev pub ref : ℕ
 ref = 24
+
+-- Document 02, Req 10: "`(arrow DOMAIN CODOMAIN)`, surface kind 25".
+abbrev pub arrow : ℕ
+arrow = 25
+
+-- "Its core row is a pi", and "an arrow agrees in form with a pi": the kind that a kind counts as.
+abbrev pub counts-as : ℕ → ℕ
+counts-as k = cond (eqb k arrow) pi k
 
 -- How a form is written; each T is a term.
 pub data Shape : Type 0 where
@@ -76,6 +84,10 @@ forms =
     form (ascii "j") 13 plain 6 ∷
     []
 
+-- "Edition `(surface 0 2)` adds `(arrow DOMAIN CODOMAIN)`". No kind has two forms, so these are the forms of all kinds.
+unfoldable pub forms-0-2 : List Form
+forms-0-2 = form (ascii "arrow") arrow plain 2 ∷ forms
+
 -- What differs between the formats that are read: the tokens, that is, the one at or behind an offset; the forms; the reserved words.
 pub record Edition : Type 0 where
   pub tokens : List ℕ → ℕ → Lexed
@@ -84,6 +96,9 @@ pub record Edition : Type 0 where
 
 unfoldable pub edition-0-1 : Edition
 edition-0-1 = record { tokens = next-token; forms = forms; reserved = reserved }
+
+unfoldable pub edition-0-2 : Edition
+edition-0-2 = record { tokens = next-token; forms = forms-0-2; reserved = reserved-0-2 }
 
 -- The form of a word, if it has one.
 unfoldable pub form-of-word : List ℕ → List Form → Option Form
@@ -97,7 +112,7 @@ form-of-kind k (f ∷ l) = elim (eqb k (f .kind)) [ true ↦ some f | false ↦ 
 
 -- How many arguments a term of a kind has.
 unfoldable pub arity-of : ℕ → ℕ
-arity-of k = elim (form-of-kind k forms) [ none ↦ 0 | some f ↦ f .arity ]
+arity-of k = elim (form-of-kind k forms-0-2) [ none ↦ 0 | some f ↦ f .arity ]
 
 -- The forms that are written with a name or a numeral.
 abbrev pub has-atom : Shape → Bool
@@ -111,6 +126,6 @@ has-atom plain = false
 unfoldable pub holds-span-in : List Form → ℕ → Bool
 holds-span-in l k = elim (form-of-kind k l) [ none ↦ false | some f ↦ has-atom (f .shape) ]
 
--- The same by those of a source.
+-- The same by those of a source, of either edition.
 abbrev pub holds-span : ℕ → Bool
-holds-span k = holds-span-in forms k
+holds-span k = holds-span-in forms-0-2 k

@@ -4,18 +4,18 @@ use mathlib.Core.List.{List, [], _∷_}
 use mathlib.Core.Option.{Option, none, some}
 use mathlib.Core.Bool.{true, false}
 use Prim.Native.Nat.{ℕ, suc}
-use Rattle.words.specs.Words.{same-bytes}
 use Rattle.terms.specs.Label.{Name}
+use Rattle.terms.specs.Resolution.{called}
 
--- A name in scope, with the row of the form that binds it.
+-- A local binder's name, if it has one, and the row of its form.
 pub record Local : Type 0 where
-  pub name : Name
+  pub name : Option Name
   pub row : ℕ
 
-abbrev pub local-of : Name → ℕ → Local
+abbrev pub local-of : Option Name → ℕ → Local
 local-of x k = record { name = x; row = k }
 
--- How many names are passed by before the one that is looked for, and its row.
+-- How many binders are passed by before the one that is looked for, and its row.
 pub record Found : Type 0 where
   pub count : ℕ
   pub row : ℕ
@@ -30,7 +30,7 @@ next-found (some f) = some (found (suc (f .count)) (f .row))
 -- The first of a name, the innermost in front.
 unfoldable pub lookup : Name → List Local → Option Found
 lookup x [] = none
-lookup x (y ∷ l) = elim (same-bytes x (y .name)) [ true ↦ some (found 0 (y .row)) | false ↦ next-found (lookup x l) ]
+lookup x (y ∷ l) = elim (called x (y .name)) [ true ↦ some (found 0 (y .row)) | false ↦ next-found (lookup x l) ]
 
 -- What a reference refers to. "A local hides a declaration."
 pub data Referent : Type 0 where

@@ -5,7 +5,7 @@ use mathlib.Core.Option.{none, some}
 use Prim.Native.Nat.{ℕ}
 use lib.ListN.{length, getD}
 use Rattle.words.specs.Words.{ascii}
-use Rattle.terms.specs.Forms.{Shape, alone, with-name, with-numeral, binding, plain, forms, form-of-kind}
+use Rattle.terms.specs.Forms.{Shape, alone, with-name, with-numeral, binding, plain, forms-0-2, form-of-kind}
 use Rattle.terms.specs.Tree.{Forest, nil, node}
 use Rattle.terms.specs.Label.{part, Label, Declaration, trees}
 
@@ -32,7 +32,7 @@ begins-with plain w = ascii "("
 
 -- The same by the kind.
 unfoldable pub first-bytes : ℕ → List ℕ
-first-bytes k = elim (form-of-kind k forms) [ none ↦ [] | some f ↦ begins-with (f .shape) (f .word) ]
+first-bytes k = elim (form-of-kind k forms-0-2) [ none ↦ [] | some f ↦ begins-with (f .shape) (f .word) ]
 
 -- "the offset of the term's first byte": there each term of a source begins.
 abbrev pub TermsBegin : List ℕ → Forest Label → Type 0

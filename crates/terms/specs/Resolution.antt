@@ -1,11 +1,11 @@
--- Document 01, "The core module": what each reference becomes, and the first name that is refused.
+-- Document 01, "The core module", and document 02, Req 10: what each reference becomes, and the first name that is refused.
 use mathlib.Core.List.{List, [], _∷_, _++_}
 use mathlib.Core.Option.{Option, none, some}
 use mathlib.Core.Bool.{Bool, true, false, _&&_, _||_, cond}
 use Prim.Native.Nat.{ℕ, zero, suc}
 use lib.Dec.{eqb}
 use Rattle.words.specs.Words.{same-bytes}
-use Rattle.terms.specs.Forms.{pi, lam, sigma, ref}
+use Rattle.terms.specs.Forms.{pi, lam, sigma, ref, arrow}
 use Rattle.terms.specs.Tree.{Forest, nil, node}
 use Rattle.terms.specs.Label.{Name, part, Label, Declaration, trees, declared-name}
 
@@ -17,6 +17,20 @@ next-number (some i) = some (suc i)
 unfoldable pub find : Name → List Name → Option ℕ
 find x [] = none
 find x (y ∷ l) = elim (same-bytes x y) [ true ↦ some zero | false ↦ next-number (find x l) ]
+
+-- The local binders, innermost first. An arrow is one without a name, "that no name reaches".
+abbrev pub Locals : Type 0
+Locals = List (Option Name)
+
+-- Whether a local binder has the name x.
+abbrev pub called : Name → Option Name → Bool
+called x none = false
+called x (some y) = same-bytes x y
+
+-- The number of the first local binder that has the name x: each one before it counts.
+unfoldable pub find-local : Name → Locals → Option ℕ
+find-local x [] = none
+find-local x (o ∷ l) = elim (called x o) [ true ↦ some zero | false ↦ next-number (find-local x l) ]
 
 -- What a term becomes in the core.
 pub data Core : Type 0 where
@@ -31,36 +45,41 @@ referent (some i) g = var i
 referent none (some j) = global j
 referent none none = unknown
 
--- With the local names, innermost first, and the names of the earlier declarations.
-unfoldable pub core-of : List ℕ → List Name → List Name → Label → Core
+-- With the local binders, innermost first, and the names of the earlier declarations.
+unfoldable pub core-of : List ℕ → Locals → List Name → Label → Core
 core-of s locals globals l =
     elim (eqb (l .kind) ref) [
-      | true ↦ referent (find (part s (l .start) (l .length)) locals) (find (part s (l .start) (l .length)) globals)
+      | true ↦ referent (find-local (part s (l .start) (l .length)) locals) (find (part s (l .start) (l .length)) globals)
       | false ↦ kept
     ]
 
 -- "A binder covers the codomain or body, never its own domain": whether a term of kind k covers its argument i.
+-- An arrow: "in the codomain it counts as one binder".
 abbrev pub covers : ℕ → ℕ → Bool
-covers k i = ((eqb k pi || eqb k sigma) && eqb i 1) || (eqb k lam && eqb i 0)
+covers k i = (((eqb k pi || eqb k sigma) || eqb k arrow) && eqb i 1) || (eqb k lam && eqb i 0)
 
--- The local names in the argument i of a term.
-abbrev pub locals-in : List ℕ → Label → List Name → ℕ → List Name
-locals-in s l locals i = cond (covers (l .kind) i) (part s (l .start) (l .length) ∷ locals) locals
+-- The name that a binder of kind k gives, where x stands in its place: an arrow gives none.
+abbrev pub bound-name : ℕ → Name → Option Name
+bound-name k x = cond (eqb k arrow) none (some x)
+
+-- The local binders in the argument i of a term.
+abbrev pub locals-in : List ℕ → Label → Locals → ℕ → Locals
+locals-in s l locals i = cond (covers (l .kind) i) (bound-name (l .kind) (part s (l .start) (l .length)) ∷ locals) locals
 
 -- A term's label, with what it becomes.
 pub record Resolved : Type 0 where
   pub label : Label
   pub core : Core
 
--- A list of trees, resolved; `locals i` are the local names at the tree i of the list.
-abbrev pub resolve : List ℕ → (ℕ → List Name) → List Name → Forest Label → Forest Resolved
+-- A list of trees, resolved; `locals i` are the local binders at the tree i of the list.
+abbrev pub resolve : List ℕ → (ℕ → Locals) → List Name → Forest Label → Forest Resolved
 resolve s locals globals nil = nil
 resolve s locals globals (node l a r) =
     node (record { label = l; core = core-of s (locals zero) globals l })
     (resolve s (locals-in s l (locals zero)) globals a)
     (resolve s (λ i. locals (suc i)) globals r)
 
--- A declaration's trees. No name is local at the top, and "a declaration is unseen in its own type and body".
+-- A declaration's trees. Nothing is local at the top, and "a declaration is unseen in its own type and body".
 abbrev pub resolve-declaration : List ℕ → List Name → Declaration → Forest Resolved
 resolve-declaration s globals d = resolve s (λ i. []) globals (trees d)
 

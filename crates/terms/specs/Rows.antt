@@ -1,10 +1,10 @@
--- Document 01, "The module read" and "The core module", and document 02, Req 01: rows of eight words and declaration records of five.
+-- Document 01, "The module read" and "The core module", and document 02, Req 01 and Req 10: rows of eight words and declaration records of five.
 use mathlib.Core.List.{List, [], _∷_, _++_, map}
 use mathlib.Core.Bool.{Bool, cond}
 use Prim.Native.Nat.{ℕ, zero, suc}
 use lib.Dec.{eqb}
 use lib.ListN.{take, drop}
-use Rattle.terms.specs.Forms.{var-kind, global-kind, universe, holds-span}
+use Rattle.terms.specs.Forms.{var-kind, global-kind, universe, counts-as, holds-span}
 use Rattle.terms.specs.Tree.{Cell, next, roots, cells}
 use Rattle.terms.specs.Label.{Label, Declaration, trees}
 use Rattle.terms.specs.Resolution.{Core, kept, var, global, unknown, Resolved, CoreDeclaration}
@@ -33,8 +33,9 @@ surface-row = row-holding holds-span
 
 -- "Core row k has surface row k's kind and children without the binder, and a universe its start and length;
 -- ref becomes var with a count, or global with a place from 0." A module with an unknown reference leaves no row.
+-- Req 10, of an arrow: "Its core row is a pi".
 abbrev pub core-kind : Label → Core → ℕ
-core-kind l kept = l .kind
+core-kind l kept = counts-as (l .kind)
 core-kind l (var count) = var-kind
 core-kind l (global place) = global-kind
 core-kind l unknown = 0

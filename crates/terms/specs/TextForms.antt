@@ -1,4 +1,5 @@
--- Document 02, Req 03: the forms of core text, from the table of forms: without names and binders, and with var and global.
+-- Document 02, Req 03: the forms of core text, from those of edition 0 1: without names and binders, and with var and global. An arrow is none of
+-- them, since, by Req 10, "Its core row is a pi".
 use mathlib.Core.List.{List, [], _∷_}
 use Rattle.words.specs.Words.{ascii}
 use Rattle.terms.specs.Forms.{Shape, alone, with-name, with-numeral, binding, plain, Form, form, forms, var-kind, global-kind}

@@ -41,6 +41,10 @@ word-index w = place-in 1 w reserved-words
 unfoldable pub reserved : List ℕ → Bool
 reserved w = not (eqb (word-index w) 0)
 
+-- Document 02, Req 10: "`arrow` is reserved in 0 2 only".
+unfoldable pub reserved-0-2 : List ℕ → Bool
+reserved-0-2 w = reserved w || same-bytes w (ascii "arrow")
+
 -- Whether every byte passes a test.
 unfoldable pub all : (ℕ → Bool) → List ℕ → Bool
 all p [] = true
