@@ -9,8 +9,8 @@ use native.Mathlib.Omega.{arith}
 use lib.ListN.{length, length-append}
 use Rattle.terms.specs.Tree.{Place, then, maybe, pick, next}
 use Rattle.terms.specs.Label.{Name, Named, Term}
-use Rattle.terms.specs.Resolution.{covers}
-use Rattle.terms.proofs.Names.{same?}
+use Rattle.terms.specs.Resolution.{covers, bound-name}
+use Rattle.terms.proofs.Names.{called?}
 use Rattle.terms.proofs.Binders.{down, own as own-binder, scope, first, first-yes, first-no, first-down, binder-place}
 use Rattle.terms.specs.RowAt.{tree-row, row-at}
 use Rattle.binding.specs.Binds.{binders-around, between}
@@ -19,7 +19,7 @@ use Rattle.terms.proofs.Lookup.{lookup-yes, lookup-no, behind, lookup-some, loo
 
 -- What a term of row k adds to the locals in its argument i.
 abbrev pub own : Named → ℕ → ℕ → List Local
-own t k i = cond (covers (t .kind) i) (local-of (t .name) k ∷ []) []
+own t k i = cond (covers (t .kind) i) (local-of (bound-name (t .kind) (t .name)) k ∷ []) []
 
 -- The locals at a place of a term whose first row is n: the binders around it, each with its row.
 abbrev pub located : ℕ → Place → Term → List Local
@@ -43,7 +43,7 @@ length-located (i ∷ p) n t = go (length-located p) (pick (t .args) i)
           arith,
           length-append (located (tree-row n (t .args) i) p u) (own (t .label) (next n (t .args)) i),
           ih (tree-row n (t .args) i) u,
-          length-own (covers (t .label .kind) i) (local-of (t .label .name) (next n (t .args))),
+          length-own (covers (t .label .kind) i) (local-of (bound-name (t .label .kind) (t .label .name)) (next n (t .args))),
         )
 
 module _ (x : Name) where
@@ -57,12 +57,15 @@ module _ (x : Name) where
   unfolding lookup
   own-gives n c i p t e = go (covers (t .label .kind) i)
     where
-      go : (b : Bool) → Gives n (i ∷ p) t (behind c (lookup x (cond b (local-of (t .label .name) (next n (t .args)) ∷ []) []))) (first x (cond b (record { called = t .label .name; place = [] } ∷ []) []))
+      o : Option Name
+      o = bound-name (t .label .kind) (t .label .name)
+
+      go : (b : Bool) → Gives n (i ∷ p) t (behind c (lookup x (cond b (local-of o (next n (t .args)) ∷ []) []))) (first x (cond b (record { called = o; place = [] } ∷ []) []))
       go false = refl
-      go true = by-cases (same? x (t .label .name))
-          (λ y. rw (first-yes x (record { called = t .label .name; place = [] }) [] y, lookup-yes x (local-of (t .label .name) (next n (t .args))) [] y)
+      go true = by-cases (called? x o)
+          (λ y. rw (first-yes x (record { called = o; place = [] }) [] y, lookup-yes x (local-of o (next n (t .args))) [] y)
           (next n (t .args), refl, ap (λ (m : ℕ). some (found m (next n (t .args)))) (let z : c + 0 ≡ between [] (i ∷ p) t = omega arith in z)))
-          (λ y. rw (first-no x (record { called = t .label .name; place = [] }) [] y, lookup-no x (local-of (t .label .name) (next n (t .args))) [] y) refl)
+          (λ y. rw (first-no x (record { called = o; place = [] }) [] y, lookup-no x (local-of o (next n (t .args))) [] y) refl)
 
   pub lookup-located : (p : Place) (n : ℕ) (t : Term) → Gives n p t (lookup x (located n p t)) (binder-place x p t)
   unfolding lookup

@@ -9,7 +9,7 @@ use Rattle.terms.specs.Forms.{ref}
 use Rattle.terms.specs.Rows.{core-row, core-rows}
 use Rattle.terms.specs.Tree.{Forest, nil, node, Cell, next, cells, relabel}
 use Rattle.terms.specs.Label.{Name, part, Label, named, Declaration, trees, declared-name}
-use Rattle.terms.specs.Resolution.{find, Core, kept, referent as core-referent, core-of, covers, locals-in, Resolved, resolve, resolve-declaration, CoreDeclaration, resolve-module}
+use Rattle.terms.specs.Resolution.{find, Locals, find-local, Core, kept, referent as core-referent, core-of, covers, bound-name, locals-in, Resolved, resolve, resolve-declaration, CoreDeclaration, resolve-module}
 use Rattle.terms.proofs.Cells.{next-relabel}
 use Rattle.terms.proofs.Spans.{resolve-next}
 use Rattle.terms.specs.Lookup.{Local, local-of, lookup, Referent, refers}
@@ -23,11 +23,11 @@ abbrev pub core-for : Option Referent → Core
 core-for none = kept
 core-for (some r) = as-core r
 
-abbrev pub names : List Local → List Name
+abbrev pub names : List Local → Locals
 names l = map (λ y. y .name) l
 
 module _ (s : List ℕ) where
-  same-one : (e : List Local) (d : List Name) (g : List Name) (l : Label) → names e ≡ d → core-for (referent-of e g (named s l)) ≡ core-of s d g l
+  same-one : (e : List Local) (d : Locals) (g : List Name) (l : Label) → names e ≡ d → core-for (referent-of e g (named s l)) ≡ core-of s d g l
   unfolding referent-of core-of
   same-one e d g l h = go (eqb (l .kind) ref)
     where
@@ -35,21 +35,24 @@ module _ (s : List ℕ) where
       x = part s (l .start) (l .length)
 
       go : (b : Bool) → core-for (elim b as (λ _. Option Referent) [ true ↦ some (refers (lookup x e) (find x g)) | false ↦ none ])
-          ≡ elim b as (λ _. Core) [ true ↦ core-referent (find x d) (find x g) | false ↦ kept ]
-      go true = refers-core (lookup x e) (find x g) ∙ ap (λ (o : Option ℕ). core-referent o (find x g)) (lookup-count x e ∙ ap (find x) h)
+          ≡ elim b as (λ _. Core) [ true ↦ core-referent (find-local x d) (find x g) | false ↦ kept ]
+      go true = refers-core (lookup x e) (find x g) ∙ ap (λ (o : Option ℕ). core-referent o (find x g)) (lookup-count x e ∙ ap (find-local x) h)
       go false = refl
 
-  same-locals : (l : Label) (k i : ℕ) (e : List Local) (d : List Name) → names e ≡ d → names (own (named s l) k i ++ e) ≡ locals-in s l d i
+  same-locals : (l : Label) (k i : ℕ) (e : List Local) (d : Locals) → names e ≡ d → names (own (named s l) k i ++ e) ≡ locals-in s l d i
   same-locals l k i e d h = go (covers (l .kind) i)
     where
-      go : (b : Bool) → names (cond b (local-of (part s (l .start) (l .length)) k ∷ []) [] ++ e) ≡ cond b (part s (l .start) (l .length) ∷ d) d
-      go true = ap {B = List Name} (λ m. part s (l .start) (l .length) ∷ m) h
+      o : Option Name
+      o = bound-name (l .kind) (part s (l .start) (l .length))
+
+      go : (b : Bool) → names (cond b (local-of o k ∷ []) [] ++ e) ≡ cond b (o ∷ d) d
+      go true = ap {B = Locals} (λ m. o ∷ m) h
       go false = h
 
   abbrev pub held : Cell Resolved → Core
   held c = c .label .core
 
-  pub same-cores : (f : Forest Label) (n : ℕ) (e : ℕ → List Local) (d : ℕ → List Name) (g : List Name) → ((i : ℕ) → names (e i) ≡ d i)
+  pub same-cores : (f : Forest Label) (n : ℕ) (e : ℕ → List Local) (d : ℕ → Locals) (g : List Name) → ((i : ℕ) → names (e i) ≡ d i)
       → map core-for (referents n e g (relabel (named s) f)) ≡ map (λ c. c .label .core) (cells n (resolve s d g f))
   same-cores nil n e d g h = refl
   same-cores (node l a r) n e d g h =

@@ -1,4 +1,4 @@
--- Document 02, Req 04, "Go to the binder": what binds the reference at a row. "the definition of scope is the measure".
+-- Document 02, Req 04, "Go to the binder", and Req 10: what binds the reference at a row. "the definition of scope is the measure".
 use mathlib.Core.Path.{_≡_}
 use mathlib.Core.List.{List, [], _∷_, map}
 use mathlib.Core.Option.{some}
@@ -17,7 +17,8 @@ use Rattle.surface.specs.Reports.{Report, accepted, report-refusal}
 use Rattle.surface.specs.Loading.{loading, load}
 use Rattle.binding.specs.declared.Binding.{Binding}
 
--- How many pi, sigma and lam terms there are in whose codomain or body the place p of t stands.
+-- How many pi, sigma, lam and arrow terms there are in whose codomain or body the place p of t stands. Req 10, of an arrow: "in the codomain it
+-- counts as one binder that no name reaches". So it counts here, and by `BoundBy` it is never what binds.
 abbrev pub binders-around : Place → Term → ℕ
 binders-around [] t = 0
 binders-around (i ∷ p) t = maybe (pick (t .args) i) 0 (λ u. binders-around p u + cond (covers (t .label .kind) i) 1 0)

@@ -2,10 +2,12 @@
 use mathlib.Core.Path.{_≡_}
 use mathlib.Core.Logic.{_⊎_}
 use mathlib.Core.List.{List, [], _∷_}
+use mathlib.Core.Option.{some}
 use Prim.Native.Nat.{ℕ, _+_, _*_, _<_}
 use lib.ListN.{getD}
-use Rattle.terms.specs.Forms.{var-kind, global-kind}
-use Rattle.terms.specs.Label.{Declaration}
+use Rattle.terms.specs.Forms.{var-kind, global-kind, arrow}
+use Rattle.terms.specs.Tree.{at}
+use Rattle.terms.specs.Label.{Declaration, Term}
 use Rattle.surface.specs.Reader.{Position, start, Result, done, refused, nowhere}
 use Rattle.surface.specs.Tables.{Lengths, Tables, lengths}
 use Rattle.surface.specs.Reports.{Report, accepted, report-refusal}
@@ -37,6 +39,12 @@ CoreKept = (s : List ℕ) (k : ℕ) (before : Tables) (a : Binding) (after : Tab
 -- What binds a reference is completed behind it: its row is higher.
 abbrev pub BinderHigher : Type 0
 BinderHigher = (s : List ℕ) (ds : List Declaration) (k count row : ℕ) → Bound s ds k count row → k < row
+
+-- Document 02, Req 10: what binds a reference is no arrow.
+abbrev pub NeverAnArrow : Type 0
+NeverAnArrow =
+    (s : List ℕ) (ds : List Declaration) (k count row : ℕ) (b : Bound s ds k count row) (t : Term) → at (b .q) (b .term .whole) ≡ some t
+    → ¬ (t .label .kind ≡ arrow)
 
 -- "The promises use that definition": the number and values of what a call of `binder` answers.
 abbrev pub BindingReports : List ℕ → ℕ → Result (List Declaration) → Report → Type 0

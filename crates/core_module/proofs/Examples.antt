@@ -6,11 +6,11 @@ use Prim.Native.String.{String}
 use lib.ListN.{length}
 use Rattle.token.specs.Token.{byte-class, layout-end, atom-from, token-here, next-token}
 use Rattle.core_token.specs.CoreToken.{core-class, string-class, core-atom-from, string-from, core-token-from, next-core-token}
-use Rattle.words.specs.Words.{ascii, same-bytes, reserved-words, place-in, word-index, reserved, all, identifier, numeral}
+use Rattle.words.specs.Words.{ascii, same-bytes, reserved-words, place-in, word-index, reserved, reserved-0-2, all, identifier, numeral}
 use Rattle.utf8.specs.Utf8.{table-3-7, following, valid-from, valid-length, byte-order-mark}
-use Rattle.terms.specs.Forms.{forms, edition-0-1, form-of-word, form-of-kind, holds-span-in}
+use Rattle.terms.specs.Forms.{forms, forms-0-2, edition-0-1, edition-0-2, form-of-word, form-of-kind, holds-span-in}
 use Rattle.terms.specs.TextForms.{text-forms}
-use Rattle.terms.specs.Resolution.{find, core-of, first-unknown, first-refused}
+use Rattle.terms.specs.Resolution.{find, find-local, core-of, first-unknown, first-refused}
 use Rattle.terms.specs.Rows.{pad}
 use Rattle.surface.specs.declared.Answer.{Answer}
 use Rattle.surface.specs.declared.Answer.the-variants.{Loaded, Refused}
@@ -38,7 +38,7 @@ pub listing-printed :
     (print listed listing-lengths 130 .answer ≡ Printed.Text (length printed))
     × (print listed listing-lengths 130 .text ≡ pad 130 printed)
     × (print listed listing-lengths 124 .answer ≡ Printed.Refused (nowhere 14))
-unfolding byte-class layout-end atom-from token-here next-token same-bytes reserved-words place-in word-index reserved all identifier numeral table-3-7 following valid-from valid-length byte-order-mark forms edition-0-1 form-of-word form-of-kind find core-of first-unknown first-refused store finish several term token opening closing atom word natural declaration-kind name bare tagged known beginning-on beginning body declared declaration ending onwards declarations edition-of supported surface-line module-line head read-module parsing reading loading text-forms digits decimal print-shape print-form print-terms declaration-word print-declarations print-module print-text printing print
+unfolding byte-class layout-end atom-from token-here next-token same-bytes reserved-words place-in word-index reserved reserved-0-2 all identifier numeral table-3-7 following valid-from valid-length byte-order-mark forms forms-0-2 edition-0-1 edition-0-2 form-of-word form-of-kind find find-local core-of first-unknown first-refused store finish several term token opening closing atom word natural declaration-kind name bare tagged known beginning-on beginning body declared declaration ending onwards declarations edition-of supported surface-line module-line head read-module parsing reading loading text-forms digits decimal print-shape print-form print-terms declaration-word print-declarations print-module print-text printing print
 listing-printed = (refl, refl, refl)
 
 -- A text and what the reader leaves for it.
@@ -100,6 +100,7 @@ points =
     core (T "(postulate\"a\"(var 99999999999999999999999))))") (Loaded 1 1) ∷
     core (T "(postulate\"a\"(var 00))))") (at 75) ∷
     core (T "(postulate\"a\"(ref a))))") (at 71) ∷
+    core (T "(postulate\"a\"(arrow nat nat))))") (at 71) ∷
     core (T "(postulate\"a\"(pi nat))))") (at 77) ∷
     -- a name used twice: 13 at 0, behind the end
     core (T "(postulate\"a\"nat)(opaque\"a\"nat nat)))") (at 0) ∷
@@ -107,6 +108,7 @@ points =
     -- versions: 2 behind the theory's parenthesis, whatever differs
     core (ascii "(hott-core (format 9 9) (theory \"x\" 0 1") (at 39) ∷
     core (ascii "(hott-core (format 9 9) (theory \"x\" 0 1)") (no-place 2) ∷
+    core (ascii "(hott-core (format 0 2) (theory \"mltt-core\" 0 1)") (no-place 2) ∷
     core (ascii "(hott-core (format 0 01) (theory \"x\" 0 1)") (at 21) ∷
     -- order: 11, UTF-8, the mark; 9 at the parenthesis, 10 behind a completed term
     lent (lends 8192 1280 16383) [] (no-place 11) ∷

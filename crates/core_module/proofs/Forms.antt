@@ -1,7 +1,7 @@
 -- The table of core text's forms, and each source form's line in it: what is equal line by line is equal for the form of a kind and of a word.
 use mathlib.Core.Path.{_≡_, refl, sym, ap, _∙_, subst}
 use mathlib.Core.List.{List, [], _∷_, map, head-eq-of-cons-eq, tail-eq-of-cons-eq}
-use mathlib.Core.Option.{Option, none, some}
+use mathlib.Core.Option.{Option, some}
 use mathlib.Core.Bool.{Bool, true, false, _||_}
 use Prim.Native.Nat.{ℕ}
 use lib.Dec.{eqb}
@@ -9,9 +9,10 @@ use borrow.Author.Tests.{eqb-true}
 use Rattle.core_token.specs.CoreToken.{core-class}
 use Rattle.words.specs.Words.{same-bytes}
 use Rattle.terms.specs.Forms.{Shape, alone, with-name, with-numeral, binding, plain, Form, forms, form-of-word, form-of-kind, has-atom, var-kind, global-kind, universe, ref}
-use Rattle.terms.specs.TextForms.{text-forms, unbound}
+use Rattle.terms.specs.TextForms.{text-forms}
 use Rattle.terms.proofs.Names.{none-some, some-inj}
 use Rattle.terms.proofs.FormTable.{every, of-word, of-kind}
+use Rattle.surface.proofs.Editions.{is-reference, is-universe, text-outline, carried-as, AllCarried}
 use Rattle.core_module.proofs.Tokens.{wordlike}
 
 module _ {A : Type 0} (x y : Form → A) where
@@ -91,47 +92,15 @@ all-numbers = refl
 pub numbers : (k : ℕ) (g : Form) → form-of-kind k text-forms ≡ some g → has-atom (g .shape) ≡ numbered k
 numbers k g e = equal-of-kind (λ f. has-atom (f .shape)) (λ f. numbered (f .kind)) k text-forms g all-numbers e ∙ ap numbered (kind-is k text-forms g e)
 
--- Each form of a source has its form in core text, but for references.
-abbrev carried-form : Shape → Form → Option Form
-carried-form alone f = some (unbound f)
-carried-form with-name f = none
-carried-form with-numeral f = some (unbound f)
-carried-form binding f = some (unbound f)
-carried-form plain f = some (unbound f)
-
-abbrev is-reference : Shape → Bool
-is-reference alone = false
-is-reference with-name = true
-is-reference with-numeral = false
-is-reference binding = false
-is-reference plain = false
-
-abbrev is-universe : Shape → Bool
-is-universe alone = false
-is-universe with-name = false
-is-universe with-numeral = true
-is-universe binding = false
-is-universe plain = false
-
--- That is so of a form f of the shape c.
+-- Each form of a source has its form in core text, but for references: that is so of a form f of the shape c.
 pub record Carried (c : Shape) (f : Form) : Type 0 where
-  pub form : form-of-kind (f .kind) text-forms ≡ carried-form c f
+  pub form : text-outline f ≡ carried-as c (f .arity)
   pub reference : eqb (f .kind) ref ≡ is-reference c
   pub universe : eqb (f .kind) universe ≡ is-universe c
 
--- And of each form of a list.
-pub record AllCarried (l : List Form) : Type 0 where
-  pub forms : map (λ f. form-of-kind (f .kind) text-forms) l ≡ map (λ f. carried-form (f .shape) f) l
-  pub references : map (λ f. eqb (f .kind) ref) l ≡ map (λ f. is-reference (f .shape)) l
-  pub universes : map (λ f. eqb (f .kind) universe) l ≡ map (λ f. is-universe (f .shape)) l
-
-pub all-carried : AllCarried forms
-unfolding forms text-forms form-of-kind
-all-carried = record { forms = refl; references = refl; universes = refl }
-
 pub carried-word : (w : List ℕ) (l : List Form) (f : Form) → AllCarried l → form-of-word w l ≡ some f → Carried (f .shape) f
 carried-word w l f a e = record {
-  form = equal-of-word (λ f. form-of-kind (f .kind) text-forms) (λ f. carried-form (f .shape) f) w l f (a .forms) e;
+  form = equal-of-word text-outline (λ f. carried-as (f .shape) (f .arity)) w l f (a .forms) e;
   reference = equal-of-word (λ f. eqb (f .kind) ref) (λ f. is-reference (f .shape)) w l f (a .references) e;
   universe = equal-of-word (λ f. eqb (f .kind) universe) (λ f. is-universe (f .shape)) w l f (a .universes) e;
 }

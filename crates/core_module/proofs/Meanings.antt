@@ -7,13 +7,14 @@ use Prim.Native.Nat.{ℕ, suc}
 use lib.Dec.{eqb}
 use borrow.Author.Tests.{eqb-true}
 use Rattle.words.specs.Words.{numeral}
-use Rattle.terms.specs.Forms.{Shape, alone, with-name, with-numeral, binding, plain, Form, forms, form-of-kind, has-atom, holds-span-in, var-kind, global-kind, universe}
+use Rattle.terms.specs.Forms.{Shape, alone, with-name, with-numeral, binding, plain, Form, forms, form-of-kind, has-atom, holds-span-in, var-kind, global-kind, universe, counts-as}
 use Rattle.terms.specs.TextForms.{text-forms}
 use Rattle.terms.specs.Tree.{Forest, nil, node, Cell, next, roots, cells, relabel}
 use Rattle.terms.specs.Label.{Name, part, Label, Named, Declaration, trees, named}
 use Rattle.terms.specs.Resolution.{Core, kept, var, global, unknown, Resolved, CoreDeclaration}
 use Rattle.terms.specs.Rows.{pad, row, span, core-words, core-row, core-rows, declaration-records, read-records}
 use Rattle.terms.specs.Content.{RecordContent, record-content}
+use Rattle.terms.proofs.Arrow.{counts-same}
 use Rattle.terms.proofs.Names.{none-some}
 use Rattle.terms.proofs.Cells.{recell, next-relabel, roots-relabel, cells-relabel}
 use Rattle.terms.proofs.RowFields.{six-fields}
@@ -60,12 +61,12 @@ pub record Good (m : Named) : Type 0 where
   pub is : form-of-kind (m .kind) text-forms ≡ some form
   pub canonical : has-atom (form .shape) ≡ true → numeral (m .name) ≡ true
 
-fit-good : (c : Shape) (g : Form) (m : Named) (a : Forest Named) → Fit c g m a → has-atom c ≡ true → numeral (m .name) ≡ true
-fit-good alone g m a h e = absurd (false≢true e)
-fit-good with-name g m a h e = absurd h
-fit-good with-numeral g m a h e = h .0
-fit-good binding g m a h e = absurd h
-fit-good plain g m a h e = absurd (false≢true e)
+fit-good : (c : Shape) (n : ℕ) (m : Named) (a : Forest Named) → Fit c n m a → has-atom c ≡ true → numeral (m .name) ≡ true
+fit-good alone n m a h e = absurd (false≢true e)
+fit-good with-name n m a h e = absurd h
+fit-good with-numeral n m a h e = h .0
+fit-good binding n m a h e = absurd h
+fit-good plain n m a h e = absurd (false≢true e)
 
 abbrev pub AllGood : List (Cell Named) → Type 0
 AllGood [] = Unit {0}
@@ -79,7 +80,7 @@ cells-good : (n : ℕ) (f : Forest Named) → Printable f → AllGood (cells n f
 cells-good n nil h = tt
 cells-good n (node m a r) h =
     good-append (cells n a) _ (cells-good n a (h .1))
-    (record { form = h .0 .0; is = h .0 .1; canonical = fit-good (h .0 .0 .shape) (h .0 .0) m a (h .0 .2) }, cells-good (suc (next n a)) r (h .2))
+    (record { form = h .0 .0; is = h .0 .1; canonical = fit-good (h .0 .0 .shape) (h .0 .0 .arity) m a (h .0 .2) }, cells-good (suc (next n a)) r (h .2))
 
 -- What counts of a term and the rows of its arguments.
 abbrev pub cell-meaning : Cell Named → Meaning
@@ -122,17 +123,20 @@ unfolding value text-forms forms form-of-kind
 source-words s l kept ch g = go (eqb (l .kind) universe) refl
   where
     k : ℕ
-    k = l .kind
+    k = counts-as (l .kind)
 
     P : Name
     P = part s (l .start) (l .length)
 
-    small : eqb k var-kind || eqb k global-kind ≡ false
-    small = kept-kind k P g
+    same : eqb k universe ≡ eqb (l .kind) universe
+    same = counts-same (λ i. eqb i universe) refl (l .kind)
 
-    go : (b : Bool) → eqb k universe ≡ b → source-meaning s (row k (cond b (span l) [] ++ ch) (l .offset)) ≡ meaning k (value (cond b P [])) (cond b P []) (pad 6 ch)
-    go true h = same-digits k (l .start) (value P) P _ (pad 6 ch) small h
-    go false h = same-form k _ (value []) _ [] _ (neither _ _ small h) ∙ ap (meaning k (value []) []) (six-fields ch (l .offset))
+    small : eqb k var-kind || eqb k global-kind ≡ false
+    small = kept-kind k P (subst (λ (b : Bool). Good (record { kind = k; name = cond b P [] })) (sym same) g)
+
+    go : (b : Bool) → eqb (l .kind) universe ≡ b → source-meaning s (row k (cond b (span l) [] ++ ch) (l .offset)) ≡ meaning k (value (cond b P [])) (cond b P []) (pad 6 ch)
+    go true h = same-digits k (l .start) (value P) P _ (pad 6 ch) small (same ∙ h)
+    go false h = same-form k _ (value []) _ [] _ (neither _ _ small (same ∙ h)) ∙ ap (meaning k (value []) []) (six-fields ch (l .offset))
 source-words s l (var i) ch g = let e = sym (decimal-worth i .worth) in λ j. record { kind = 1; number = e j; digits = []; children = [] }
 source-words s l (global i) ch g = let e = sym (decimal-worth i .worth) in λ j. record { kind = 2; number = e j; digits = []; children = [] }
 source-words s l unknown ch g = none-some (g .is)

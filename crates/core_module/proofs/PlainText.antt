@@ -19,7 +19,7 @@ use Rattle.core_module.proofs.Forms.{legible}
 use Rattle.core_module.proofs.Printable.{Fit, Printable, PrintableModule}
 use Rattle.core_module.proofs.Numerals.{numeral-wordlike}
 
-shape-plain : (c : Shape) (g : Form) (m : Named) (a : Forest Named) (x : List ℕ) → Fit c g m a → Plain (g .word) → Plain x → Plain (print-shape g c (m .name) x)
+shape-plain : (c : Shape) (g : Form) (m : Named) (a : Forest Named) (x : List ℕ) → Fit c (g .arity) m a → Plain (g .word) → Plain x → Plain (print-shape g c (m .name) x)
 unfolding print-shape
 shape-plain alone g m a x h w k = w
 shape-plain with-name g m a x h w k = tt
@@ -28,7 +28,7 @@ shape-plain with-numeral g m a x h w k =
 shape-plain binding g m a x h w k = tt
 shape-plain plain g m a x h w k = (omega arith, plain-append (g .word) _ w (plain-append x (41 ∷ []) k (omega arith, tt)))
 
-form-plain : (o : Option Form) (g : Form) (m : Named) (a : Forest Named) (x : List ℕ) → o ≡ some g → Fit (g .shape) g m a → Plain (g .word) → Plain x → Plain (print-form o (m .name) x)
+form-plain : (o : Option Form) (g : Form) (m : Named) (a : Forest Named) (x : List ℕ) → o ≡ some g → Fit (g .shape) (g .arity) m a → Plain (g .word) → Plain x → Plain (print-form o (m .name) x)
 unfolding print-form
 form-plain o g m a x e h w k = subst (λ (y : Option Form). Plain (print-form y (m .name) x)) (sym e) (shape-plain (g .shape) g m a x h w k)
 

@@ -16,17 +16,17 @@ use Rattle.surface.specs.Reading.{declaration-kind}
 use Rattle.printing.specs.Printing.{Spelled, declaration-word}
 use Rattle.core_module.proofs.Tokens.{wordlike, Directs, Plain}
 
--- What a term of a shape has: no name and no arguments, a numeral, or as many arguments as its form wants.
-abbrev pub Fit : Shape → Form → Named → Forest Named → Type 0
-Fit alone g m a = (m .name ≡ []) × (a ≡ nil)
-Fit with-name g m a = ⊥
-Fit with-numeral g m a = (numeral (m .name) ≡ true) × (a ≡ nil)
-Fit binding g m a = ⊥
-Fit plain g m a = (m .name ≡ []) × (count a ≡ g .arity) × ¬ (a ≡ nil)
+-- What a term of a shape has: no name and no arguments, a numeral, or as many arguments as its form wants, which are n.
+abbrev pub Fit : Shape → ℕ → Named → Forest Named → Type 0
+Fit alone n m a = (m .name ≡ []) × (a ≡ nil)
+Fit with-name n m a = ⊥
+Fit with-numeral n m a = (numeral (m .name) ≡ true) × (a ≡ nil)
+Fit binding n m a = ⊥
+Fit plain n m a = (m .name ≡ []) × (count a ≡ n) × ¬ (a ≡ nil)
 
 abbrev pub Printable : Forest Named → Type 0
 Printable nil = Unit {0}
-Printable (node m a r) = ((g : Form) × (form-of-kind (m .kind) text-forms ≡ some g) × Fit (g .shape) g m a) × Printable a × Printable r
+Printable (node m a r) = ((g : Form) × (form-of-kind (m .kind) text-forms ≡ some g) × Fit (g .shape) (g .arity) m a) × Printable a × Printable r
 
 -- No more than l frames open at once, of trees with any labels.
 abbrev pub Within : {A : Type 0} → ℕ → Forest A → Type 0

@@ -219,7 +219,7 @@ module _ (s : List ℕ) (limit : ℕ) where
       (subst (λ (x : Forest Named). (q : Position) → drop (q .offset) s ≡ print-terms r ++ l → q .rows ≡ suc (next (p .rows) x) → Goes i q r l) z ih))
 
   -- A term of any shape, and what follows it.
-  shape-goes : (i : ℕ) (p : Position) (m : Named) (a r : Forest Named) (g : Form) (c : Shape) (l : List ℕ) → form-of-kind (m .kind) text-forms ≡ some g → g .shape ≡ c → Fit c g m a
+  shape-goes : (i : ℕ) (p : Position) (m : Named) (a r : Forest Named) (g : Form) (c : Shape) (l : List ℕ) → form-of-kind (m .kind) text-forms ≡ some g → g .shape ≡ c → Fit c (g .arity) m a
       → Within i (node m a r) → next (suc (next (p .rows) a)) r ≤ limit → Stop l → drop (p .offset) s ≡ print-terms (node m a r) ++ l
       → ((j : ℕ) (q : Position) (x : List ℕ) → Within j a → next (q .rows) a ≤ limit → Stop x → drop (q .offset) s ≡ print-terms a ++ x → Goes j q a x)
       → ((q : Position) → drop (q .offset) s ≡ print-terms r ++ l → q .rows ≡ suc (next (p .rows) a) → Goes i q r l)

@@ -20,7 +20,7 @@ use Rattle.surface.specs.Statements.{frames-of, deepest}
 use Rattle.surface.specs.Reader.{Position, Result, done, Reader}
 use Rattle.surface.specs.Reading.{term, closing, declaration-kind, beginning, body, declared, declaration, ending, onwards, declarations}
 use Rattle.surface.proofs.Frames.{within}
-use Rattle.surface.proofs.Shaped.{CountedEdition}
+use Rattle.surface.proofs.Editions.{CountedEdition}
 use Rattle.surface.proofs.Takes.{after-go, to, first-token, other-tokens, token-takes, closing-takes, atom-takes}
 use Rattle.surface.proofs.Complete.{terms-go}
 use Rattle.surface.proofs.CompleteDeclarations.{several-suc, several-zero, tag-postulate, tag-transparent, tag-opaque}

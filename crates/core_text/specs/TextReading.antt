@@ -40,6 +40,7 @@ zero-one s a b = same-bytes (text s a) (ascii "0") && same-bytes (text s b) (asc
 
 module _ (s : List ℕ) where
   -- `(hott-core (format 0 1) (theory "mltt-core" 0 1)`: 2, nowhere, for any other numerals or name, given behind the theory's parenthesis.
+  -- Req 10, of refusal 2: "for core text it stays as in Req 03".
   unfoldable pub text-head : Reader (Unit {0})
   text-head = do
     o ← opening (next-core-token s)

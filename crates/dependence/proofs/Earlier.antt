@@ -10,8 +10,9 @@ use lib.ListN.{length, length-append}
 use Rattle.terms.specs.Forms.{ref}
 use Rattle.terms.specs.Tree.{Forest, nil, node, next, roots, relabel}
 use Rattle.terms.specs.Label.{Name, part, Label, Declaration, trees, named, declared-name, named-declaration}
-use Rattle.terms.specs.Resolution.{find, Core, referent, core-of, locals-in, Resolved, resolve, resolve-declaration, CoreDeclaration, resolve-module}
+use Rattle.terms.specs.Resolution.{find, Locals, find-local, Core, referent, core-of, locals-in, Resolved, resolve, resolve-declaration, CoreDeclaration, resolve-module}
 use Rattle.terms.specs.Rows.{core-words}
+use Rattle.terms.proofs.Arrow.{low-counts}
 use Rattle.terms.proofs.Names.{find-below}
 use Rattle.terms.proofs.NamedModule.{Shaped, ShapedModule}
 use Rattle.terms.proofs.Spans.{core-of-ref, core-of-kept, named-trees}
@@ -33,17 +34,17 @@ referent-below l (some i) g b h j w e = absurd (omega (arith, e .0))
 referent-below l none (some i) b h j w e = omega (arith, e .1, h i refl)
 referent-below l none none b h j w e = absurd (omega (arith, e .0))
 
-core-below : (s : List ℕ) (locals globals : List Name) (l : Label) → 3 ≤ l .kind → Names-below (length globals) l (core-of s locals globals l)
+core-below : (s : List ℕ) (locals : Locals) (globals : List Name) (l : Label) → 3 ≤ l .kind → Names-below (length globals) l (core-of s locals globals l)
 core-below s locals globals l h = by-cases (ℕ-discrete (l .kind) ref)
     (λ e. subst (Names-below (length globals) l) (sym (core-of-ref s locals globals l e))
-    (referent-below l (find (part s (l .start) (l .length)) locals) (find (part s (l .start) (l .length)) globals) (length globals) (find-below (part s (l .start) (l .length)) globals)))
-    (λ e. subst (Names-below (length globals) l) (sym (core-of-kept s locals globals l e)) (λ j w g. absurd (omega (arith, h, g .0))))
+    (referent-below l (find-local (part s (l .start) (l .length)) locals) (find (part s (l .start) (l .length)) globals) (length globals) (find-below (part s (l .start) (l .length)) globals)))
+    (λ e. subst (Names-below (length globals) l) (sym (core-of-kept s locals globals l e)) (λ j w g. absurd (omega (arith, low-counts (l .kind) h, g .0))))
 
 abbrev AllBelow : ℕ → Forest Resolved → Type 0
 AllBelow b nil = Unit {0}
 AllBelow b (node t a r) = Names-below b (t .label) (t .core) × AllBelow b a × AllBelow b r
 
-resolve-below : (s : List ℕ) (locals : ℕ → List Name) (globals : List Name) (f : Forest Label) → Shaped (relabel (named s) f) → AllBelow (length globals) (resolve s locals globals f)
+resolve-below : (s : List ℕ) (locals : ℕ → Locals) (globals : List Name) (f : Forest Label) → Shaped (relabel (named s) f) → AllBelow (length globals) (resolve s locals globals f)
 resolve-below s locals globals nil h = tt
 resolve-below s locals globals (node l a r) h = (
   core-below s (locals zero) globals l (h .0),

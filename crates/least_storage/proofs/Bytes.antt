@@ -2,7 +2,7 @@
 -- comes from the source. So with a row for each three bytes and a declaration for each seventeen, reading meets neither 8 nor 9.
 use mathlib.Core.Path.{_≡_, refl}
 use mathlib.Core.Logic.{inr}
-use mathlib.Core.Bool.{Bool, true, false, _&&_}
+use mathlib.Core.Bool.{true}
 use mathlib.Core.List.{List}
 use mathlib.Core.Option.{Option, none, some}
 use Prim.Native.Nat.{ℕ, _+_, _*_, _/_, _≤_, _<_}
@@ -10,17 +10,18 @@ use native.Mathlib.Omega.{arith}
 use lib.ListN.{length}
 use Rattle.token.specs.Token.{next-token}
 use Rattle.token.specs.declared.Lexed.{Lexed}
-use Rattle.words.specs.Words.{ascii, same-bytes}
-use Rattle.terms.specs.Forms.{Edition, edition-0-1}
+use Rattle.words.specs.Words.{ascii}
+use Rattle.terms.specs.Forms.{Edition}
 use Rattle.terms.specs.Label.{Declaration}
 use Rattle.surface.specs.Text.{text, is-end}
 use Rattle.surface.specs.Reader.{Position, start, Result, done, refused}
 use Rattle.surface.specs.Reading.{term, opening, closing, word, natural, name, beginning, declarations, edition-of, supported, surface-line, module-line, Head, head, read-module}
+use Rattle.surface.proofs.Editions.{edition-meets}
 pub use Rattle.least_storage.proofs.FromSource.{from-source}
 use Rattle.least_storage.proofs.FromSource.{Comes, comes-as, comes-after}
 use Rattle.least_storage.proofs.TokenBytes.{spread, Gap, AtomAhead, name-ahead}
 use Rattle.least_storage.proofs.LineBytes.{LineOf, Any, line-after, line-end, atom-line, opening-line, closing-line, natural-line, word-line}
-use Rattle.least_storage.proofs.FormBytes.{Fine, fine-0-1}
+use Rattle.least_storage.proofs.FormBytes.{Fine, fine-of}
 use Rattle.least_storage.proofs.TermBytes.{whole-comes}
 use Rattle.least_storage.proofs.DeclarationBytes.{Named, Passed, declarations-comes}
 
@@ -55,12 +56,12 @@ module _ (s : List ℕ) where
 
   -- An edition that is supported is fine.
   supported-comes : (a b : List ℕ) (p : Position) → p .offset ≤ hi → Comes (LineOf Fine hi 0 p) (supported (edition-of a b) p)
-  unfolding supported edition-of
-  supported-comes a b p h = go (same-bytes a (ascii "0") && same-bytes b (ascii "1"))
+  unfolding supported
+  supported-comes a b p h = go (edition-of a b) refl
     where
-      go : (y : Bool) → Comes (LineOf Fine hi 0 p) (supported (elim y as (λ _. Option Edition) [ true ↦ some edition-0-1 | false ↦ none ]) p)
-      go true = line-end Fine hi p edition-0-1 fine-0-1 h
-      go false = refl
+      go : (o : Option Edition) → edition-of a b ≡ o → Comes (LineOf Fine hi 0 p) (supported o p)
+      go (some E) e = line-end Fine hi p E (fine-of (edition-meets a b E e)) h
+      go none e = refl
 
   surface-comes : (p : Position) → Comes (LineOf Fine hi 11 p) (surface-line s p)
   unfolding surface-line

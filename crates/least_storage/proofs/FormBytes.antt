@@ -1,6 +1,6 @@
 -- What a term begins with, and the bytes of it: a leaf has three and more, and a form two and more before its arguments.
-use mathlib.Core.Path.{_≡_, refl, subst}
-use mathlib.Core.Bool.{Bool, true}
+use mathlib.Core.Path.{_≡_, refl, sym, subst}
+use mathlib.Core.Bool.{true}
 use mathlib.Core.List.{List}
 use mathlib.Core.Option.{Option, none, some}
 use Prim.Native.Nat.{ℕ, _+_, _≤_, _<_}
@@ -11,33 +11,22 @@ use borrow.Author.Tests.{leb-true}
 use Rattle.token.specs.declared.TokenKind.{TokenKind}
 use Rattle.token.specs.declared.Token.{Token}
 use Rattle.token.specs.declared.Lexed.{Lexed}
-use Rattle.terms.specs.Forms.{Shape, alone, with-name, with-numeral, binding, plain, Form, forms, Edition, edition-0-1, form-of-word}
+use Rattle.terms.specs.Forms.{Shape, alone, with-name, with-numeral, binding, plain, Form, Edition, form-of-word}
 use Rattle.terms.proofs.FormTable.{every, of-word, word-is}
 use Rattle.surface.specs.Text.{text}
 use Rattle.surface.specs.Reader.{Position, Reader}
 use Rattle.surface.specs.Reading.{Beginning, leaf, frame, token, closing, atom, natural, name, bare, tagged, known, beginning-on, beginning}
+use Rattle.surface.proofs.Editions.{fine-as, fine, Conditions}
 use Rattle.least_storage.proofs.FromSource.{Comes, comes-after}
 use Rattle.least_storage.proofs.TokenBytes.{Spread, spread, Ahead, text-bytes, Gap, AtomAhead, Taken, token-taken, taken-ahead, taken-atom, atom-ahead, closing-ahead, natural-ahead, name-ahead}
-
--- A word that stands alone has three bytes at least, and a form that is written with terms alone has one of them at least.
-abbrev fine-as : Shape → Form → Bool
-fine-as alone f = leb 3 (length (f .word))
-fine-as with-name f = true
-fine-as with-numeral f = true
-fine-as binding f = true
-fine-as plain f = leb 1 (f .arity)
-
-abbrev pub fine : Form → Bool
-fine f = fine-as (f .shape) f
 
 -- What is asked of an edition.
 pub record Fine (E : Edition) : Type 0 where
   pub tokens : (s : List ℕ) → Spread (E .tokens s) (length s)
   pub forms : every fine (E .forms) ≡ true
 
-pub fine-0-1 : Fine edition-0-1
-unfolding edition-0-1 forms
-fine-0-1 = record { tokens = spread; forms = refl }
+pub fine-of : {E : Edition} → Conditions E → Fine E
+fine-of c = record { tokens = λ s. subst (λ (T : List ℕ → ℕ → Lexed). Spread (T s) (length s)) (sym (c .tokens)) (spread s); forms = c .fine }
 
 -- The beginning of a term, from p to q. A leaf has a byte more where no atom stands; a form has with its n arguments, each of which has three
 -- bytes, and its closing parenthesis four bytes at least.

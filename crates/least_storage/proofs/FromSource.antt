@@ -6,7 +6,7 @@ use lib.Dec.{eqb}
 use Rattle.token.specs.declared.Refusal.{Refusal}
 use Rattle.surface.specs.Reader.{Position, Result, done, refused, Reader, after, _>>_, require}
 
--- "1 malformed", "2 version other than 0 1", "3 reserved name", "7 more than 512 frames open in one term"
+-- "1 malformed", 2 "for source versions other than 0 1 and 0 2", "3 reserved name", "7 more than 512 frames open in one term"
 abbrev pub from-source : ℕ → Bool
 from-source c = eqb c 1 || (eqb c 2 || (eqb c 3 || eqb c 7))
 

@@ -15,7 +15,7 @@ use Rattle.token.proofs.Runs.{drop-next}
 use Rattle.words.specs.Words.{identifier}
 use Rattle.terms.specs.Forms.{Edition}
 use Rattle.surface.specs.Text.{text}
-use Rattle.surface.specs.Grammar.{Closes, Word, Name, Version, version-0-1, Head, head}
+use Rattle.surface.specs.Grammar.{Closes, Word, Name, Version, version-0-1, version-0-2, Head, head}
 use Rattle.surface.proofs.TokenSizes.{span-of}
 use Rattle.surface.proofs.Runs.{Run, run-end, run-more, end-of}
 
@@ -71,6 +71,7 @@ module _ (s r : List ℕ) (e : ℕ) (agree : Agree e s r) where
 
   version-local : (a b : Token) {E : Edition} → a .start < a .end → a .end ≤ e → b .start < b .end → b .end ≤ e → Version s a b E → Version r a b E
   version-local a b h i j k (version-0-1 v w) = version-0-1 (word-local a h i v) (word-local b j k w)
+  version-local a b h i j k (version-0-2 v w) = version-0-2 (word-local a h i v) (word-local b j k w)
 
   tokens-local : {ts us : List Token} {E : Edition} {x : Token} → Head s ts E x us → Inside e ts → Head r ts E x us
   tokens-local (head {w = w} {v₀ = a} {v₁ = b} {m = m} {x = x} {E = E} o₁ o₂ v o₅ o₆ o₇ o₈ o₉) (i₁, j₁, (i₂, j₂, (i₃, j₃, (i₄, j₄, (i₅, j₅, (i₆, j₆, (i₇, j₇, (i₈, j₈, k)))))))) =

@@ -24,7 +24,7 @@ use Rattle.surface.specs.Reading.{lexed, token, opening, closing, atom, word, n
 use Rattle.surface.specs.Loading.{Lengths, parsing, reading, loading, outcome, load}
 use Rattle.surface.proofs.Steps.{no-done, done-inj, after-elim, require-elim, natural-done}
 use Rattle.surface.proofs.Takes.{require-go, require-stops}
-use Rattle.surface.proofs.Shaped.{version-tokens}
+use Rattle.surface.proofs.Editions.{version-meets}
 use Rattle.surface.proofs.SoundModule.{edition-is, supported-done}
 use Rattle.surface.proofs.Acceptance.{whole-valid}
 use Rattle.module_name.specs.declared.ModuleName.the-variants.{Refused}
@@ -216,7 +216,7 @@ module _ (s : List ℕ) where
       after-elim (natural next s p₃) _ E q h₃ (λ b p₄ g₄ h₄.
       after-elim (closing next p₄) _ E q h₄ (λ c p₅ g₅ h₅.
       supported-done (edition-of (text s a) (text s b)) p₅ q E h₅ (λ v j.
-      version-tokens (edition-is s a b E v (natural-done next s p₂ p₃ a g₃ .1) (natural-done next s p₃ p₄ b g₄ .1))))))))
+      version-meets (edition-is s a b E v (natural-done next s p₂ p₃ a g₃ .1) (natural-done next s p₃ p₄ b g₄ .1)) .tokens))))))
 
   head-only : (p : Position) → Only (head s p)
   unfolding head

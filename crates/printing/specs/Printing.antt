@@ -1,11 +1,11 @@
--- Document 02, Req 03: the core text of a module: what `print_canonical` of format/printer.rs writes.
+-- Document 02, Req 03 and Req 10: the core text of a module: what `print_canonical` of format/printer.rs writes.
 use mathlib.Core.List.{List, [], _∷_, _++_, map}
 use mathlib.Core.Option.{Option, none, some}
 use mathlib.Core.Bool.{cond}
 use Prim.Native.Nat.{ℕ}
 use lib.Dec.{eqb}
 use Rattle.words.specs.Words.{ascii}
-use Rattle.terms.specs.Forms.{Shape, alone, with-name, with-numeral, binding, plain, Form, form-of-kind, universe, var-kind, global-kind}
+use Rattle.terms.specs.Forms.{Shape, alone, with-name, with-numeral, binding, plain, Form, form-of-kind, universe, var-kind, global-kind, counts-as}
 use Rattle.terms.specs.Tree.{Forest, nil, node, relabel}
 use Rattle.terms.specs.Label.{Name, part, Label, Named}
 use Rattle.terms.specs.Resolution.{Core, kept, var, global, unknown, Resolved, CoreDeclaration}
@@ -54,9 +54,10 @@ text-head = ascii "(hott-core (format 0 1) (theory \"mltt-core\" 0 1) (declarati
 unfoldable pub print-module : List Spelled → List ℕ
 print-module l = text-head ++ (print-declarations l ++ (41 ∷ 41 ∷ 10 ∷ []))
 
--- The core of a source, spelled: a var's count and a global's place in decimal, a universe's digits.
+-- The core of a source, spelled: a var's count and a global's place in decimal, a universe's digits. Req 10, of an arrow: "Its core row is a
+-- pi", so `(pi T T)` is written.
 abbrev pub spell-core : List ℕ → Label → Core → Named
-spell-core s l kept = record { kind = l .kind; name = cond (eqb (l .kind) universe) (part s (l .start) (l .length)) [] }
+spell-core s l kept = record { kind = counts-as (l .kind); name = cond (eqb (l .kind) universe) (part s (l .start) (l .length)) [] }
 spell-core s l (var count) = record { kind = var-kind; name = decimal count }
 spell-core s l (global place) = record { kind = global-kind; name = decimal place }
 spell-core s l unknown = record { kind = 0; name = [] }
