@@ -2,34 +2,35 @@
 use Prim.Native.Nat.{ℕ}
 use mathlib.Core.Path.{_≡_, refl, sym, _∙_, ap, ap₂}
 use mathlib.Core.List.{List, [], _∷_, _++_}
+use mathlib.Core.Option.{Option}
 use mathlib.Core.Bool.{Bool, true, false, cond}
 use native.Mathlib.Omega.{arith}
 use native.Mathlib.Decide.{ℕ-discrete}
 use borrow.Author.Tests.{ne-eqb}
 use lib.Dec.{eqb}
-use Rattle.terms.specs.Forms.{universe, pi, lam, sigma, ref, forms, form-of-kind, holds-span, holds-span-in}
+use Rattle.terms.specs.Forms.{universe, pi, lam, sigma, ref, arrow, counts-as, forms, forms-0-2, form-of-kind, holds-span, holds-span-in}
 use Rattle.terms.specs.Label.{Name, part, Label}
-use Rattle.terms.specs.Resolution.{find, Core, kept, var, global, unknown, referent, core-of, covers, locals-in, is-unknown}
+use Rattle.terms.specs.Resolution.{Locals, find, find-local, Core, kept, var, global, unknown, referent, core-of, covers, bound-name, locals-in, is-unknown}
 use Rattle.terms.specs.Rows.{row, span, core-kind, core-fields, core-words}
 use Rattle.terms.proofs.Spans.{core-of-ref, core-of-kept}
 use Rattle.rows.proofs.Covering.{covers-none}
 
--- Which kinds have a span: those of a reference, a universe, and what covers an argument.
+-- Which kinds have a span: those of a reference, a universe, and what covers an argument and is no arrow.
 pub spans : (holds-span ref ≡ true) × (holds-span universe ≡ true) × (holds-span pi ≡ true) × (holds-span sigma ≡ true) × (holds-span lam ≡ true)
-unfolding holds-span-in form-of-kind forms
+unfolding holds-span-in form-of-kind forms forms-0-2
 spans = (refl, refl, refl, refl, refl)
 
 not-both : {A : Type 0} (b : Bool) → b ≡ true → b ≡ false → A
 not-both b p q = absurd (let z : _≡_ {A = ℕ} 0 1 = ap (λ (x : Bool). cond x 0 1) (sym p ∙ q) in omega arith)
 
-pub span-covers : (k i : ℕ) → covers k i ≡ true → holds-span k ≡ true
-span-covers k i h = go (ℕ-discrete k pi) (ℕ-discrete k sigma) (ℕ-discrete k lam)
+span-covers : (k i : ℕ) → (k ≡ arrow → ⊥) → covers k i ≡ true → holds-span k ≡ true
+span-covers k i n h = go (ℕ-discrete k pi) (ℕ-discrete k sigma) (ℕ-discrete k lam)
   where
     go : Dec (k ≡ pi) → Dec (k ≡ sigma) → Dec (k ≡ lam) → holds-span k ≡ true
     go (yes p) q r = ap holds-span p ∙ spans .2
     go (no p) (yes q) r = ap holds-span q ∙ spans .3
     go (no p) (no q) (yes r) = ap holds-span r ∙ spans .4
-    go (no p) (no q) (no r) = not-both (covers k i) h (covers-none k i p q r)
+    go (no p) (no q) (no r) = not-both (covers k i) h (covers-none k i p q r n)
 
 -- The label l' is read from the row of the label l.
 pub record Alike (l' l : Label) : Type 0 where
@@ -38,7 +39,7 @@ pub record Alike (l' l : Label) : Type 0 where
   pub offset : l' .offset ≡ l .offset
 
 module _ (s : List ℕ) (l' l : Label) (a : Alike l' l) where
-  module _ (locals globals : List Name) where
+  module _ (locals : Locals) (globals : List Name) where
     abbrev core' : Core
     core' = core-of s locals globals l'
 
@@ -52,7 +53,7 @@ module _ (s : List ℕ) (l' l : Label) (a : Alike l' l) where
         go (yes e) =
             let p = a .span (ap holds-span e ∙ spans .0) in
             core-of-ref s locals globals l' (a .kind ∙ e)
-            ∙ ap₂ (λ (x n : ℕ). referent (find (part s x n) locals) (find (part s x n) globals)) (p .0) (p .1)
+            ∙ ap₂ (λ (x n : ℕ). referent (find-local (part s x n) locals) (find (part s x n) globals)) (p .0) (p .1)
             ∙ sym (core-of-ref s locals globals l e)
         go (no e) = core-of-kept s locals globals l' (λ q. e (sym (a .kind) ∙ q)) ∙ sym (core-of-kept s locals globals l e)
 
@@ -64,14 +65,23 @@ module _ (s : List ℕ) (l' l : Label) (a : Alike l' l) where
         go (yes e) = a .span (ap holds-span e ∙ spans .0)
         go (no e) = not-both (is-unknown core) h (ap is-unknown (core-of-kept s locals globals l e))
 
-  pub same-locals : (locals : List Name) (i : ℕ) → locals-in s l' locals i ≡ locals-in s l locals i
-  same-locals locals i = ap (λ (k : ℕ). cond (covers k i) (part s (l' .start) (l' .length) ∷ locals) locals) (a .kind) ∙ go (covers (l .kind) i) refl
+  -- An arrow's row has no span, and what stands in its place is not looked at.
+  pub same-name : (i : ℕ) → covers (l .kind) i ≡ true → bound-name (l .kind) (part s (l' .start) (l' .length)) ≡ bound-name (l .kind) (part s (l .start) (l .length))
+  same-name i e = go (ℕ-discrete (l .kind) arrow)
     where
-      go : (b : Bool) → covers (l .kind) i ≡ b → cond b (part s (l' .start) (l' .length) ∷ locals) locals ≡ cond b (part s (l .start) (l .length) ∷ locals) locals
+      go : Dec (l .kind ≡ arrow) → bound-name (l .kind) (part s (l' .start) (l' .length)) ≡ bound-name (l .kind) (part s (l .start) (l .length))
+      go (yes q) = ap (λ (k : ℕ). bound-name k (part s (l' .start) (l' .length))) q ∙ ap (λ (k : ℕ). bound-name k (part s (l .start) (l .length))) (sym q)
+      go (no q) =
+          let p = a .span (span-covers (l .kind) i q e) in
+          ap₂ (λ (x n : ℕ). bound-name (l .kind) (part s x n)) (p .0) (p .1)
+
+  pub same-locals : (locals : Locals) (i : ℕ) → locals-in s l' locals i ≡ locals-in s l locals i
+  same-locals locals i = ap (λ (k : ℕ). cond (covers k i) (bound-name k (part s (l' .start) (l' .length)) ∷ locals) locals) (a .kind) ∙ go (covers (l .kind) i) refl
+    where
+      go : (b : Bool) → covers (l .kind) i ≡ b
+          → cond b (bound-name (l .kind) (part s (l' .start) (l' .length)) ∷ locals) locals ≡ cond b (bound-name (l .kind) (part s (l .start) (l .length)) ∷ locals) locals
       go false e = refl
-      go true e =
-          let p = a .span (span-covers (l .kind) i e) in
-          ap₂ (λ (x n : ℕ). part s x n ∷ locals) (p .0) (p .1)
+      go true e = ap (λ (o : Option Name). o ∷ locals) (same-name i e)
 
   -- Only a universe has its span in the core.
   same-fields : (c : Core) (ids : List ℕ) → core-fields l' c ids ≡ core-fields l c ids
@@ -92,7 +102,7 @@ module _ (s : List ℕ) (l' l : Label) (a : Alike l' l) where
   same-fields unknown ids = refl
 
   same-kind : (c : Core) → core-kind l' c ≡ core-kind l c
-  same-kind kept = a .kind
+  same-kind kept = ap counts-as (a .kind)
   same-kind (var i) = refl
   same-kind (global j) = refl
   same-kind unknown = refl

@@ -2,22 +2,16 @@
 use Prim.Native.Nat.{ℕ, zero, suc, _+_, _-_, _≤_}
 use mathlib.Core.Path.{_≡_, refl, sym, _∙_, ap, subst}
 use mathlib.Core.List.{List, [], _∷_, _++_}
-use mathlib.Core.Bool.{Bool, true, false, cond}
+use mathlib.Core.Bool.{Bool, true, false}
 use native.Mathlib.Omega.{arith}
-use lib.Dec.{eqb}
-use borrow.Author.Tests.{eq-eqb, ne-eqb}
-use native.Mathlib.Decide.{ℕ-discrete}
-use lib.ListN.{length, take, drop, length-drop}
-use Rattle.terms.specs.Forms.{universe, arity-of}
+use lib.ListN.{length, take, drop}
+use Rattle.terms.specs.Forms.{arity-of}
 use Rattle.terms.specs.Label.{Label}
 use Rattle.terms.specs.Resolution.{Core, is-unknown}
-use Rattle.terms.specs.Rows.{pad, row, core-words}
-use Rattle.terms.proofs.FormTable.{arity-universe}
-use Rattle.terms.proofs.CoreRows.{no-children}
+use Rattle.terms.specs.Rows.{pad, core-words}
 use Rattle.stacks.specs.Stacks.{values-in}
-use Rattle.stacks.proofs.Decoding.{length-values}
 use Rattle.elaborate.specs.RowTerm.{row-word, six-at}
-use Rattle.elaborate.specs.Machine.{RowDone, form-row, without-arguments}
+use Rattle.elaborate.specs.Machine.{RowDone, form-words, form-row, without-arguments}
 use Rattle.elaborate.specs.declared.State.{State}
 
 module _ {id : ℕ} {core work : List ℕ} {st₁ : State} {core₁ work₁ : List ℕ} where
@@ -43,29 +37,15 @@ take-pad m (x ∷ l) zero e h = absurd (omega arith)
 take-pad zero (x ∷ l) (suc n) e h = absurd (omega arith)
 take-pad (suc m) (x ∷ l) (suc n) e h = ap (λ (r : List ℕ). x ∷ r) (take-pad m l n (omega arith) (omega arith))
 
--- A form's row, without a choice for each word: only a universe has a span, and no arguments.
-words-of-form : (k : ℕ) (l : List ℕ) (offset : ℕ) → length l ≡ arity-of k → k ∷ pad 6 l ++ (offset ∷ []) ≡ row k (cond (eqb k universe) (0 ∷ 0 ∷ []) [] ++ l) offset
-words-of-form k l offset n = go (ℕ-discrete k universe)
-  where
-    go : Dec (k ≡ universe) → k ∷ pad 6 l ++ (offset ∷ []) ≡ row k (cond (eqb k universe) (0 ∷ 0 ∷ []) [] ++ l) offset
-    go (yes e) =
-        let none : l ≡ [] = no-children l (n ∙ ap arity-of e ∙ arity-universe) in
-        ap (λ (x : List ℕ). row k x offset) none
-        ∙ (λ i. row k (cond (sym (eq-eqb k universe e) i) (0 ∷ 0 ∷ []) [] ++ sym none i) offset)
-    go (no e) = ap (λ (b : Bool). row k (cond b (0 ∷ 0 ∷ []) [] ++ l) offset) (sym (ne-eqb k universe e))
-
 -- The values on top are the arguments' rows.
 pub built-row : (surface work : List ℕ) (st : State) (k id n : ℕ) (values : List ℕ) (offset : ℕ) → n ≡ arity-of k → n ≤ st .values
     → values ≡ pad 6 (drop (st .values - n) (values-in work (st .values - n + n))) → offset ≡ row-word surface id 7
     → k ∷ values ++ (offset ∷ []) ≡ form-row surface k id st work
 built-row surface work st k id n values offset e h q o =
     let v = st .values in
-    let l = drop (v - n) (values-in work v) in
-    let long : length l ≡ arity-of k = omega (arith, e, length-drop (v - n) (values-in work v), length-values work v) in
     (λ i. k ∷ q i ++ (o i ∷ []))
-    ∙ ap (λ (m : ℕ). k ∷ pad 6 (drop (v - n) (values-in work m)) ++ (row-word surface id 7 ∷ [])) (let back : v - n + n ≡ v = omega arith in back)
-    ∙ words-of-form k l (row-word surface id 7) long
-    ∙ ap (λ (m : ℕ). row k (cond (eqb k universe) (0 ∷ 0 ∷ []) [] ++ drop (v - m) (values-in work v)) (row-word surface id 7)) e
+    ∙ ap (λ (m : ℕ). form-words surface k id (drop (v - n) (values-in work m))) (let back : v - n + n ≡ v = omega arith in back)
+    ∙ ap (λ (m : ℕ). form-words surface k id (drop (v - m) (values-in work v))) e
 
 pub length-six : (t : List ℕ) (id : ℕ) (span : Bool) → length (six-at t id span) ≡ 6
 unfolding six-at

@@ -12,7 +12,7 @@ use lib.Dec.{eqb}
 use lib.ListN.{length, getD, take, length-append, length-map}
 use Rattle.terms.specs.Tree.{Forest, nil, Tree, tree, maybe, next, roots, cells}
 use Rattle.terms.specs.Label.{Name, part, Label, Declaration, trees, declared-name}
-use Rattle.terms.specs.Resolution.{find, resolve-declaration, first-unknown, refused-name, resolve-module}
+use Rattle.terms.specs.Resolution.{Locals, find, resolve-declaration, first-unknown, refused-name, resolve-module}
 use Rattle.terms.specs.Rows.{pad, surface-row, surface-rows, core-row, read-record, read-records}
 use Rattle.terms.proofs.Cells.{next-cells}
 use Rattle.terms.proofs.Tables.{Wide}
@@ -102,7 +102,7 @@ module _ (s surface declarations : List ℕ) (rows d : ℕ) where
   abbrev globals : List Name
   globals = declared-names s declarations 0 d
 
-  abbrev R : ℕ → List Name → List ℕ → TermOutcome
+  abbrev R : ℕ → Locals → List ℕ → TermOutcome
   R = row-term s surface declarations rows d 512
 
   and-done : (o : TermOutcome) → and-then o (λ c. done c) ≡ o

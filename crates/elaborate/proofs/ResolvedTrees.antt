@@ -5,12 +5,12 @@ use mathlib.Core.List.{List, [], _∷_, _++_}
 use native.Mathlib.Omega.{arith}
 use Rattle.terms.specs.Tree.{Forest, next, roots}
 use Rattle.terms.specs.Label.{Name, Label, Declaration, trees, declared-name}
-use Rattle.terms.specs.Resolution.{resolve, resolve-module}
+use Rattle.terms.specs.Resolution.{Locals, resolve, resolve-module}
 use Rattle.terms.specs.Rows.{pad, declaration-records, read-records}
 use Rattle.terms.proofs.Cells.{next-cells, roots-relabel}
 use Rattle.terms.proofs.Spans.{resolve-labels, resolve-next}
 
-pub resolve-roots : (s : List ℕ) (locals : ℕ → List Name) (globals : List Name) (n : ℕ) (f : Forest Label) → roots n (resolve s locals globals f) ≡ roots n f
+pub resolve-roots : (s : List ℕ) (locals : ℕ → Locals) (globals : List Name) (n : ℕ) (f : Forest Label) → roots n (resolve s locals globals f) ≡ roots n f
 resolve-roots s locals globals n f = sym (roots-relabel (λ r. r .label) n (resolve s locals globals f)) ∙ ap (roots n) (resolve-labels s locals globals f)
 
 pub next-grows : {A : Type 0} (n : ℕ) (f : Forest A) → n ≤ next n f

@@ -7,7 +7,7 @@ use native.Mathlib.Omega.{arith}
 use native.Mathlib.Decide.{ℕ-discrete}
 use native.Mathlib.Nat.{suc-mul, mul-le-mul-right}
 use lib.ListN.{length}
-use Rattle.terms.specs.Forms.{pi, lam, sigma, forms, form-of-kind, arity-of}
+use Rattle.terms.specs.Forms.{pi, lam, sigma, arrow, forms, forms-0-2, form-of-kind, arity-of}
 use Rattle.terms.specs.Resolution.{covers}
 use Rattle.rows.proofs.Arities.{arity-at-most-six}
 use Rattle.stacks.specs.declared.Work.{Work}
@@ -33,7 +33,7 @@ length-scheduled k form left i [] works = omega arith
 length-scheduled k form left i (id ∷ ids) works =
     omega (arith, length-one (covers k i) form left id (scheduled k form left (suc i) ids works), length-scheduled k form left (suc i) ids works)
 
--- A form's arguments are at most six items: only pi, sigma and lam cover an argument, and they have few.
+-- A form's arguments are at most six items: only pi, sigma, lam and arrow cover an argument, and they have few.
 items-plain : (k i : ℕ) (ids : List ℕ) → ((j : ℕ) → covers k j ≡ false) → items k i ids ≡ length ids
 items-plain k i [] h = refl
 items-plain k i (id ∷ ids) h = omega (arith, ap items-one (h i), items-plain k (suc i) ids h)
@@ -57,18 +57,19 @@ items-single k (x ∷ []) e = go (covers k 0)
     go false = omega arith
 items-single k (x ∷ y ∷ ids) e = absurd (omega arith)
 
-arities : (arity-of pi ≡ 2) × (arity-of sigma ≡ 2) × (arity-of lam ≡ 1)
-unfolding arity-of form-of-kind forms
-arities = (refl, refl, refl)
+arities : (arity-of pi ≡ 2) × (arity-of sigma ≡ 2) × (arity-of lam ≡ 1) × (arity-of arrow ≡ 2)
+unfolding arity-of form-of-kind forms forms-0-2
+arities = (refl, refl, refl, refl)
 
 pub items-few : (k : ℕ) (ids : List ℕ) → length ids ≡ arity-of k → items k 0 ids ≤ 6
-items-few k ids e = go (ℕ-discrete k pi) (ℕ-discrete k sigma) (ℕ-discrete k lam)
+items-few k ids e = go (ℕ-discrete k pi) (ℕ-discrete k sigma) (ℕ-discrete k lam) (ℕ-discrete k arrow)
   where
-    go : Dec (k ≡ pi) → Dec (k ≡ sigma) → Dec (k ≡ lam) → items k 0 ids ≤ 6
-    go (yes p) q r = items-two k ids (e ∙ ap arity-of p ∙ arities .0) (ap (λ (x : ℕ). covers x 0) p)
-    go (no p) (yes q) r = items-two k ids (e ∙ ap arity-of q ∙ arities .1) (ap (λ (x : ℕ). covers x 0) q)
-    go (no p) (no q) (yes r) = items-single k ids (e ∙ ap arity-of r ∙ arities .2)
-    go (no p) (no q) (no r) = omega (arith, items-plain k 0 ids (λ j. covers-none k j p q r), arity-at-most-six k)
+    go : Dec (k ≡ pi) → Dec (k ≡ sigma) → Dec (k ≡ lam) → Dec (k ≡ arrow) → items k 0 ids ≤ 6
+    go (yes p) q r u = items-two k ids (e ∙ ap arity-of p ∙ arities .0) (ap (λ (x : ℕ). covers x 0) p)
+    go (no p) (yes q) r u = items-two k ids (e ∙ ap arity-of q ∙ arities .1) (ap (λ (x : ℕ). covers x 0) q)
+    go (no p) (no q) (yes r) u = items-single k ids (e ∙ ap arity-of r ∙ arities .2)
+    go (no p) (no q) (no r) (yes u) = items-two k ids (e ∙ ap arity-of u ∙ arities .3) (ap (λ (x : ℕ). covers x 0) u)
+    go (no p) (no q) (no r) (no u) = omega (arith, items-plain k 0 ids (λ j. covers-none k j p q r u), arity-at-most-six k)
 
 room-one : (b : Bool) (form left id : ℕ) (works : List Work) (v l : ℕ) → items-one b + length works + 7 * left ≤ 3585 → v + 5 * left ≤ 2560 → l + 1 + left ≤ 512
     → Room works (v + 1) l → Room (scheduled-one b form left id works) v l
@@ -102,8 +103,8 @@ unfolding form-weight
 weight-positive zero = omega arith
 weight-positive (suc left) = omega arith
 
-pub form-less : (k left : ℕ) (ids : List ℕ) (id : ℕ) (works : List Work) → length ids ≤ 6
-    → weight (scheduled k id left 0 ids (Work.Build k id ∷ works)) < weight (Work.Eval id (suc left) ∷ works)
+pub form-less : (k j left : ℕ) (ids : List ℕ) (id : ℕ) (works : List Work) → length ids ≤ 6
+    → weight (scheduled k id left 0 ids (Work.Build j id ∷ works)) < weight (Work.Eval id (suc left) ∷ works)
 unfolding weight form-weight
-form-less k left ids id works h =
-    omega (arith, weight-scheduled k id left 0 ids (Work.Build k id ∷ works), mul-le-mul-right (form-weight left + 2) h)
+form-less k j left ids id works h =
+    omega (arith, weight-scheduled k id left 0 ids (Work.Build j id ∷ works), mul-le-mul-right (form-weight left + 2) h)

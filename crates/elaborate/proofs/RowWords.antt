@@ -10,7 +10,7 @@ use borrow.Author.Tests.{leb-true}
 use lib.Dec.{leb}
 use lib.ListN.{length, getD, take, drop, replicate, getD-replicate, List·getD-eq-default}
 use lib.Seq.{getD-take, getD-drop}
-use Rattle.terms.specs.Forms.{forms, form-of-kind, arity-of, holds-span, holds-span-in}
+use Rattle.terms.specs.Forms.{forms, forms-0-2, form-of-kind, arity-of, holds-span, holds-span-in}
 use Rattle.terms.specs.Label.{Label}
 use Rattle.terms.specs.Rows.{pad, span, surface-row}
 use Rattle.terms.proofs.RowFields.{row-field, row-offset}
@@ -35,10 +35,10 @@ abbrev bounded : ℕ → Bool
 bounded k = leb (cond (holds-span k) (arity-of k + 4) (arity-of k)) 6
 
 pub arity-behind-span : (k : ℕ) → holds-span k ≡ true → arity-of k ≤ 2
-unfolding forms form-of-kind arity-of holds-span-in
-arity-behind-span k e = elim (decLt k 25) [
+unfolding forms forms-0-2 form-of-kind arity-of holds-span-in
+arity-behind-span k e = elim (decLt k 26) [
   | yes h ↦
-      let b = sym (value-at bounded (replicate 25 true) true 25 k refl h) ∙ getD-replicate 25 k true true h in
+      let b = sym (value-at bounded (replicate 26 true) true 26 k refl h) ∙ getD-replicate 26 k true true h in
       omega (arith, leb-true (cond (holds-span k) (arity-of k + 4) (arity-of k)) 6 b, ap (λ (x : Bool). cond x (arity-of k + 4) (arity-of k)) e)
   | no h ↦ omega (arith, no-arity k (omega arith))
 ]

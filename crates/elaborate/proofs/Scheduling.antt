@@ -67,6 +67,6 @@ module _ (w : List ℕ) (t k form left : ℕ) (children : List ℕ) (m : ℕ) (s
   pushed-all w₁ i top e p = rw e at p
 
 -- The arguments on top of the form's Build.
-pub form-pushed : {w w₁ w₂ : List ℕ} {r : ℕ} (t k left id : ℕ) (ids ids' : List ℕ) → ids ≡ ids' → WorkPushed w w₁ (t + 1) (Work.Build k id ∷ works-in w t)
-    → WorkPushed w₁ w₂ r (scheduled k id left 0 ids (works-in w₁ (t + 1))) → WorkPushed w w₂ r (scheduled k id left 0 ids' (Work.Build k id ∷ works-in w t))
-form-pushed t k left id ids ids' e p q = then-pushed (scheduled k id left 0 ids') p (rw e at q)
+pub form-pushed : {w w₁ w₂ : List ℕ} {r : ℕ} (t k j j' left id : ℕ) (ids ids' : List ℕ) → j ≡ j' → ids ≡ ids' → WorkPushed w w₁ (t + 1) (Work.Build j id ∷ works-in w t)
+    → WorkPushed w₁ w₂ r (scheduled k id left 0 ids (works-in w₁ (t + 1))) → WorkPushed w w₂ r (scheduled k id left 0 ids' (Work.Build j' id ∷ works-in w t))
+form-pushed t k j j' left id ids ids' f e p q = rw (← f) (then-pushed (scheduled k id left 0 ids') p (rw e at q))

@@ -5,11 +5,11 @@ use mathlib.Core.List.{List, [], _∷_, _++_, map}
 use native.Mathlib.Omega.{arith}
 use borrow.Author.Tests.{lt-ltb, le-ltb}
 use lib.ListN.{length, getD, take, drop}
-use Rattle.terms.specs.Forms.{ref, arity-of}
-use Rattle.terms.specs.Label.{Name}
+use Rattle.terms.specs.Forms.{ref, counts-as, arity-of}
 use Rattle.terms.specs.Lookup.{Local}
-use Rattle.terms.specs.Resolution.{Core, kept, locals-in, is-unknown}
+use Rattle.terms.specs.Resolution.{Locals, Core, kept, locals-in, is-unknown}
 use Rattle.terms.specs.Rows.{core-words}
+use Rattle.terms.proofs.Arrow.{arity-counts}
 use Rattle.terms.proofs.Spans.{core-of-kept}
 use Rattle.terms.proofs.FormTable.{arity-ref}
 use Rattle.rows.specs.Places.{stored-at}
@@ -19,7 +19,7 @@ use Rattle.stacks.specs.Stacks.{works-in, values-in, WorkPushed, LocalPushed}
 use Rattle.stacks.specs.declared.Work.{Work}
 use Rattle.stacks.proofs.Decoding.{length-works, length-values, values-below}
 use Rattle.elaborate.specs.RowTerm.{row-word, label-at, children-at, TermOutcome, done, unknown-at, and-then, arguments, core-at, visit, row-term}
-use Rattle.elaborate.specs.Machine.{form-label, outer, scheduled, run, Room, weight, RowDone, ReferenceDone, without-arguments, form-row, outcome, Went, WorkStepped}
+use Rattle.elaborate.specs.Machine.{form-words, outer, scheduled, run, Room, weight, RowDone, ReferenceDone, without-arguments, form-row, outcome, Went, WorkStepped}
 use Rattle.elaborate.specs.declared.State.{State}
 use Rattle.elaborate.specs.declared.WorkStep.{WorkStep}
 use Rattle.elaborate.proofs.Visiting.{row-visit, visit-out, visit-unknown, visit-known, visit-leaf, inner}
@@ -44,16 +44,16 @@ pub pop-bound : (works : List Work) (v l : ℕ) → Room (Work.PopLocal ∷ work
 unfolding Room
 pop-bound works v l r = r .0
 
-arguments-stop : (ids : List ℕ) (ls : ℕ → List Name) (core : List ℕ) → (ids ≡ [] → ⊥) → arguments (λ j l c. unknown-at 0 0) ls ids core ≡ unknown-at 0 0
+arguments-stop : (ids : List ℕ) (ls : ℕ → Locals) (core : List ℕ) → (ids ≡ [] → ⊥) → arguments (λ j l c. unknown-at 0 0) ls ids core ≡ unknown-at 0 0
 unfolding arguments and-then
 arguments-stop [] ls core h = absurd (h refl)
 arguments-stop (id ∷ ids) ls core h = refl
 
-abbrev names : List Local → List Name
+abbrev names : List Local → Locals
 names = map (λ y. y .name)
 
 module _ (s surface declarations : List ℕ) (rows d : ℕ) (core work : List ℕ) (st : State) where
-  abbrev locals : List Name
+  abbrev locals : Locals
   locals = local-names s work (st .locals)
 
   abbrev values : List ℕ
@@ -98,7 +98,7 @@ module _ (s surface declarations : List ℕ) (rows d : ℕ) (core work : List �
     stops : (a n : ℕ) → R ≡ unknown-at a n → outcome s surface declarations rows d (Work.Eval id left ∷ works) work st core ≡ unknown-at a n
     stops a n e = run-unknown s surface declarations rows d id locals core works values left a n e
 
-    abbrev Q : ℕ → List Name → List ℕ → TermOutcome
+    abbrev Q : ℕ → Locals → List ℕ → TermOutcome
     Q = inner s surface declarations rows d left
 
     visits : R ≡ visit s surface declarations rows d Q id locals core
@@ -147,7 +147,7 @@ module _ (s surface declarations : List ℕ) (rows d : ℕ) (core work : List �
             ∙ arguments-stop (children-at surface id) _ core (λ q. z (sym (length-children surface id) ∙ ap length q))))
 
         pub form-stepped : (g t : ℕ) (work₁ : List ℕ) → (arity-of k ≡ 0 → ⊥) → left ≡ suc g
-            → WorkPushed work work₁ t (scheduled k id g 0 (children-at surface id) (Work.Build k id ∷ works))
+            → WorkPushed work work₁ t (scheduled k id g 0 (children-at surface id) (Work.Build (counts-as k) id ∷ works))
             → W (Work.Eval id left ∷ works) (record { works = t; values = st .values; locals = st .locals }) core work₁
         unfolding Room
         form-stepped g t work₁ z e p =
@@ -160,7 +160,8 @@ module _ (s surface declarations : List ℕ) (rows d : ℕ) (core work : List �
             let x = p .works in
             let y = ap names (p .locals s (st .locals) (omega arith)) in
             let u = p .values (st .values) (omega arith) in
-            let built = Work.Build k id ∷ works in
+            let built = Work.Build (counts-as k) id ∷ works in
+            let same = arity-counts k in
             record {
               same =
                   ap (λ (m : ℕ). run s surface declarations rows d (Work.Eval id m ∷ works) locals values core) e
@@ -168,7 +169,7 @@ module _ (s surface declarations : List ℕ) (rows d : ℕ) (core work : List �
                   ∙ (λ i. run s surface declarations rows d (sym x i) (sym y i) (sym u i) core);
               less = subst (λ (l : List Work). weight l < weight (Work.Eval id left ∷ works)) (sym x)
                   (subst (λ (m : ℕ). weight (scheduled k id g 0 ids built) < weight (Work.Eval id m ∷ works)) (sym e)
-                  (form-less k g ids id works (omega arith)));
+                  (form-less k (counts-as k) g ids id works (omega arith)));
               room = subst (λ (l : List Work). Room l (st .values) (st .locals)) (sym x)
                   (room-scheduled k id g 0 ids built (st .values) (st .locals) (omega arith) (omega arith) (omega arith)
                   (omega arith, omega arith, omega arith, subst (λ (m : ℕ). Room works m (st .locals)) (omega arith) (room .3)));
@@ -189,8 +190,8 @@ module _ (s surface declarations : List ℕ) (rows d : ℕ) (core work : List �
       let u : take (length values - arity-of k) values ++ (id ∷ []) ≡ values-in work₁ (b + 1) =
       ap (λ (m : ℕ). take m values ++ (id ∷ [])) n
       ∙ ap (λ (l : List ℕ). l ++ (id ∷ [])) (ap (λ (m : ℕ). take b (values-in work m)) back ∙ values-below work b (arity-of k)) ∙ sym (p .values) in
-      let c : stored-at 8 core id (core-words (form-label surface k id) kept (drop (length values - arity-of k) values)) ≡ core₁ =
-      ap (λ (m : ℕ). stored-at 8 core id (core-words (form-label surface k id) kept (drop m values))) n ∙ sym (h .row) in
+      let c : stored-at 8 core id (form-words surface k id (drop (length values - arity-of k) values)) ≡ core₁ =
+      ap (λ (m : ℕ). stored-at 8 core id (form-words surface k id (drop m values))) n ∙ sym (h .row) in
       subst (λ (z : State). W (Work.Build k id ∷ works) z core₁ work₁) (sym (h .state)) (record {
         same = λ i. run s surface declarations rows d (sym x i) (sym y i) (u i) (c i);
         less = omega (arith, ap weight x);
@@ -199,7 +200,7 @@ module _ (s surface declarations : List ℕ) (rows d : ℕ) (core work : List �
       })
 
   pub push-stepped : (form : ℕ) (work₁ : List ℕ) → st .works ≤ 3754 → Room (Work.PushLocal form ∷ works) (st .values) (st .locals)
-      → LocalPushed work work₁ (st .locals) (row-word surface form 1) (row-word surface form 2) form
+      → LocalPushed work work₁ (st .locals) (getD surface (form * 8) 0) (row-word surface form 1) (row-word surface form 2) form
       → W (Work.PushLocal form ∷ works) (record { works = st .works; values = st .values; locals = st .locals + 1 }) core work₁
   unfolding run Room weight
   push-stepped form work₁ fits r p =
@@ -220,7 +221,7 @@ module _ (s surface declarations : List ℕ) (rows d : ℕ) (core work : List �
       → W (Work.PopLocal ∷ works) (record { works = st .works; values = st .values; locals = st .locals - 1 }) core work
   unfolding run Room weight
   pop-stepped fits r = record {
-    same = ap (λ (l : List Name). run s surface declarations rows d works l values core) (outer-names (st .locals) (r .0));
+    same = ap (λ (l : Locals). run s surface declarations rows d works l values core) (outer-names (st .locals) (r .0));
     less = omega arith;
     room = r .1;
     fits = fits;

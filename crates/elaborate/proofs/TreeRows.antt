@@ -10,7 +10,7 @@ use lib.ListN.{length, length-map}
 use Rattle.terms.specs.Forms.{arity-of}
 use Rattle.terms.specs.Tree.{Forest, nil, node, count, Cell, next, roots, cells}
 use Rattle.terms.specs.Label.{Name, Label}
-use Rattle.terms.specs.Resolution.{Core, core-of, locals-in, Resolved, resolve, is-unknown, first-unknown}
+use Rattle.terms.specs.Resolution.{Locals, Core, core-of, locals-in, Resolved, resolve, is-unknown, first-unknown}
 use Rattle.terms.specs.Rows.{surface-row, core-words, core-row}
 use Rattle.terms.proofs.Cells.{next-cells, length-roots}
 use Rattle.terms.proofs.Spans.{resolve-next}
@@ -93,22 +93,22 @@ module _ (s surface declarations : List ℕ) (rows d : ℕ) where
   abbrev globals : List Name
   globals = declared-names s declarations 0 d
 
-  abbrev R : ℕ → ℕ → List Name → List ℕ → TermOutcome
+  abbrev R : ℕ → ℕ → Locals → List ℕ → TermOutcome
   R = row-term s surface declarations rows d
 
-  abbrev rows-of : ℕ → (ℕ → List Name) → Forest Label → List (List ℕ)
+  abbrev rows-of : ℕ → (ℕ → Locals) → Forest Label → List (List ℕ)
   rows-of k locals f = map core-row (cells k (resolve s locals globals f))
 
   -- What trees come to whose first row is k.
-  abbrev forest : ℕ → (ℕ → List Name) → List ℕ → Forest Label → TermOutcome
+  abbrev forest : ℕ → (ℕ → Locals) → List ℕ → Forest Label → TermOutcome
   forest k locals core f = settled (first-unknown (resolve s locals globals f)) (stored-rows core k (rows-of k locals f))
 
   -- The rows of the trees themselves, in order, come to the trees.
   abbrev Comes : Forest Label → Type 0
-  Comes f = (n k : ℕ) (locals : ℕ → List Name) (core : List ℕ) → Holds surface rows k f → Shaped f → Nested n f → arguments (R n) locals (roots k f) core ≡ forest k locals core f
+  Comes f = (n k : ℕ) (locals : ℕ → Locals) (core : List ℕ) → Holds surface rows k f → Shaped f → Nested n f → arguments (R n) locals (roots k f) core ≡ forest k locals core f
 
   -- The rows of a first tree, and then the others.
-  stored-node : (core : List ℕ) (k : ℕ) (locals : ℕ → List Name) (l : Label) (a r : Forest Label)
+  stored-node : (core : List ℕ) (k : ℕ) (locals : ℕ → Locals) (l : Label) (a r : Forest Label)
       → stored-rows (stored-at 8 (stored-rows core k (rows-of k (locals-in s l (locals zero)) a)) (next k a) (core-words l (core-of s (locals zero) globals l) (roots k a)))
       (suc (next k a)) (rows-of (suc (next k a)) (λ i. locals (suc i)) r)
       ≡ stored-rows core k (rows-of k locals (node l a r))
@@ -127,14 +127,14 @@ module _ (s surface declarations : List ℕ) (rows d : ℕ) where
       ∙ ap (stored-rows core k) (sym (map-append core-row (cells k A) (cell ∷ cells (suc (next k A)) T)))
 
   -- A tree's row, where its arguments' rows come to the arguments.
-  module _ (n : ℕ) (l : Label) (a : Forest Label) (k : ℕ) (locals : List Name) (core : List ℕ) where
+  module _ (n : ℕ) (l : Label) (a : Forest Label) (k : ℕ) (locals : Locals) (core : List ℕ) where
     abbrev id : ℕ
     id = next k a
 
     abbrev c : Core
     c = core-of s locals globals l
 
-    abbrev Q : ℕ → List Name → List ℕ → TermOutcome
+    abbrev Q : ℕ → Locals → List ℕ → TermOutcome
     Q = inner s surface declarations rows d n
 
     abbrev table : List ℕ
@@ -178,7 +178,7 @@ module _ (s surface declarations : List ℕ) (rows d : ℕ) where
             ∙ ap (λ (b : Bool). settled (first-of b l first-in none) (stored-at 8 table id (core-words l c (roots k a)))) (sym q)
 
   -- A form's arguments have one form less to open.
-  args-come : (n : ℕ) (l : Label) (a r : Forest Label) (k : ℕ) (locals : ℕ → List Name) (core : List ℕ) → Comes a → Holds surface rows k a → Shaped a → Nested n (node l a r)
+  args-come : (n : ℕ) (l : Label) (a r : Forest Label) (k : ℕ) (locals : ℕ → Locals) (core : List ℕ) → Comes a → Holds surface rows k a → Shaped a → Nested n (node l a r)
       → arguments (inner s surface declarations rows d n) locals (roots k a) core ≡ forest k locals core a
   unfolding arguments first-unknown
   args-come n l nil r k locals core ih holds shaped nested = refl

@@ -6,27 +6,26 @@ use mathlib.Core.Bool.{true, false}
 use lib.Dec.{ltb}
 use lib.ListN.{getD}
 use Rattle.terms.specs.Forms.{arity-of}
-use Rattle.terms.specs.Label.{Name}
-use Rattle.terms.specs.Resolution.{Core, locals-in, is-unknown}
+use Rattle.terms.specs.Resolution.{Locals, Core, locals-in, is-unknown}
 use Rattle.terms.specs.Rows.{core-words}
 use Rattle.rows.specs.Places.{stored-at}
 use Rattle.elaborate.specs.RowTerm.{row-word, label-at, children-at, TermOutcome, done, unknown-at, and-then, arguments, core-at, visit, row-term}
 
 module _ (s surface declarations : List ℕ) (rows d : ℕ) where
-  abbrev At : ℕ → List Name → Core
+  abbrev At : ℕ → Locals → Core
   At = core-at s surface declarations rows d
 
   -- The resolution of the arguments of a row in which so many forms may still be opened.
-  abbrev pub inner : ℕ → ℕ → List Name → List ℕ → TermOutcome
+  abbrev pub inner : ℕ → ℕ → Locals → List ℕ → TermOutcome
   inner zero id locals core = unknown-at 0 0
   inner (suc left) id locals core = row-term s surface declarations rows d left id locals core
 
-  pub row-visit : (left id : ℕ) (locals : List Name) (core : List ℕ) → row-term s surface declarations rows d left id locals core ≡ visit s surface declarations rows d (inner left) id locals core
+  pub row-visit : (left id : ℕ) (locals : Locals) (core : List ℕ) → row-term s surface declarations rows d left id locals core ≡ visit s surface declarations rows d (inner left) id locals core
   unfolding row-term
   row-visit zero id locals core = refl
   row-visit (suc left) id locals core = refl
 
-  module _ (R : ℕ → List Name → List ℕ → TermOutcome) (id : ℕ) (locals : List Name) (core : List ℕ) where
+  module _ (R : ℕ → Locals → List ℕ → TermOutcome) (id : ℕ) (locals : Locals) (core : List ℕ) where
     abbrev visited : TermOutcome
     visited = visit s surface declarations rows d R id locals core
 

@@ -5,29 +5,29 @@ use mathlib.Core.Path.{_≡_}
 use mathlib.Core.List.{List, [], _∷_, _++_}
 use mathlib.Core.Bool.{Bool, true, false}
 use lib.ListN.{length, take, drop}
-use Rattle.terms.specs.Forms.{arity-of, holds-span}
-use Rattle.terms.specs.Label.{Name, part, Label}
-use Rattle.terms.specs.Resolution.{Core, kept, covers, is-unknown}
-use Rattle.terms.specs.Rows.{core-words}
+use Rattle.terms.specs.Forms.{counts-as, arity-of, holds-span}
+use Rattle.terms.specs.Label.{Label}
+use Rattle.terms.specs.Resolution.{Locals, Core, covers, is-unknown}
+use Rattle.terms.specs.Rows.{row, core-words}
 use Rattle.rows.specs.Places.{stored-at}
 use Rattle.scope.specs.Scope.{local-names}
 use Rattle.scope.specs.Index.{Indexed}
 use Rattle.stacks.specs.Stacks.{works-in, values-in, WorkArea, WorkPushed, ValuePushed}
 use Rattle.stacks.specs.declared.Work.{Work}
-use Rattle.elaborate.specs.RowTerm.{row-word, six-at, TermOutcome, done, unknown-at, and-then, row-term}
+use Rattle.elaborate.specs.RowTerm.{row-word, bound-at, six-at, TermOutcome, done, unknown-at, and-then, row-term}
 use Rattle.elaborate.specs.declared.State.{State}
 use Rattle.elaborate.specs.declared.WorkStep.{WorkStep}
 use Rattle.elaborate.specs.declared.TermDone.{TermDone}
 
--- What is kept of the form of kind k at row `id`, in whose core row there is no span.
-abbrev pub form-label : List ℕ → ℕ → ℕ → Label
-form-label surface k id = record { kind = k; start = 0; length = 0; offset = row-word surface id 7 }
+-- The core row of the form at row `id`, of kind k in the core, with the rows of its arguments: there is no span in it.
+abbrev pub form-words : List ℕ → ℕ → ℕ → List ℕ → List ℕ
+form-words surface k id ids = row k ids (row-word surface id 7)
 
 abbrev pub Six : List ℕ → Type 0
 Six l = length l ≡ 6
 
--- Without the innermost name.
-abbrev pub outer : List Name → List Name
+-- Without the innermost binder.
+abbrev pub outer : Locals → Locals
 outer [] = []
 outer (x ∷ l) = l
 
@@ -41,17 +41,17 @@ unfoldable pub scheduled : ℕ → ℕ → ℕ → ℕ → List ℕ → List Wor
 scheduled k form left i [] works = works
 scheduled k form left i (id ∷ ids) works = scheduled-one (covers k i) form left id (scheduled k form left (suc i) ids works)
 
--- What work items come to, with the local names, the values and the core table.
+-- What work items come to, with the local binders, the values and the core table.
 module _ (s surface declarations : List ℕ) (rows d : ℕ) where
-  unfoldable pub run : List Work → List Name → List ℕ → List ℕ → TermOutcome
+  unfoldable pub run : List Work → Locals → List ℕ → List ℕ → TermOutcome
   run [] locals values core = done core
   run (Work.Eval id left ∷ works) locals values core =
       and-then (row-term s surface declarations rows d left id locals core) (λ c. run works locals (values ++ (id ∷ [])) c)
-  run (Work.PushLocal form ∷ works) locals values core = run works (part s (row-word surface form 1) (row-word surface form 2) ∷ locals) values core
+  run (Work.PushLocal form ∷ works) locals values core = run works (bound-at s surface form ∷ locals) values core
   run (Work.PopLocal ∷ works) locals values core = run works (outer locals) values core
   run (Work.Build k id ∷ works) locals values core =
       run works locals (take (length values - arity-of k) values ++ (id ∷ []))
-      (stored-at 8 core id (core-words (form-label surface k id) kept (drop (length values - arity-of k) values)))
+      (stored-at 8 core id (form-words surface k id (drop (length values - arity-of k) values)))
 
 -- There is room for what is to come, with v values and l names: at most 7 work items, 5 values and a name for each of the 512 forms that may be
 -- opened, and 7 * 512 is 3,584, 5 * 512 is 2,560.
@@ -85,7 +85,7 @@ pub record RowsInside (s surface declarations index work : List ℕ) (rows d : �
 pub record FormScheduled (surface : List ℕ) (k id left : ℕ) (st : State) (work : List ℕ) (st₁ : State) (work₁ : List ℕ) : Type 0 where
   pub state : st₁ ≡ record { works = st₁ .works; values = st .values; locals = st .locals }
   pub items : WorkPushed work work₁ (st₁ .works)
-      (scheduled k id left 0 (take (arity-of k) (six-at surface id (holds-span k))) (Work.Build k id ∷ works-in work (st .works)))
+      (scheduled k id left 0 (take (arity-of k) (six-at surface id (holds-span k))) (Work.Build (counts-as k) id ∷ works-in work (st .works)))
 
 -- A row is stored, and its number is one more value.
 pub record RowDone (id : ℕ) (words : List ℕ) (st : State) (core work : List ℕ) (st₁ : State) (core₁ work₁ : List ℕ) : Type 0 where
@@ -104,7 +104,7 @@ without-arguments k st = record { works = st .works; values = st .values - arity
 
 -- The row of a form whose arguments are the values on top.
 abbrev pub form-row : List ℕ → ℕ → ℕ → State → List ℕ → List ℕ
-form-row surface k id st work = core-words (form-label surface k id) kept (drop (st .values - arity-of k) (values-in work (st .values)))
+form-row surface k id st work = form-words surface k id (drop (st .values - arity-of k) (values-in work (st .values)))
 
 module _ (s surface declarations : List ℕ) (rows d : ℕ) where
   -- What a state comes to whose work items are `works`.

@@ -3,7 +3,7 @@
 ghost use mathlib.Core.Path.{_≡_};
 ghost use mathlib.Core.List.{List, [], _∷_, _++_};
 ghost use Prim.Native.Nat.{_+_, _-_, _*_, _<_, _≤_};
-ghost use lib.ListN.{length, take};
+ghost use lib.ListN.{length, getD, take};
 ghost use Rattle.terms.specs.Forms.{ref, arity-of};
 ghost use Rattle.terms.specs.Label.{Declaration};
 ghost use Rattle.terms.specs.Resolution.{core-of};
@@ -36,7 +36,7 @@ const RECORD: usize = 5;
 // So many declarations are walked over sooner than an index is cleared.
 const FEW: usize = 16;
 
-// How many work items, values and names in scope there are.
+// How many work items, values and local binders there are.
 struct State {
     works: usize,
     values: usize,
@@ -174,7 +174,15 @@ fn schedule_form(
     let n = rows::arity(kind) as usize;
     let span = rows::holds_span(kind);
     let children = row_children(surface, k, span);
-    stacks::push_work(work, t, Work::Build { kind, row: id });
+    let core = rows::core_kind(kind);
+    stacks::push_work(
+        work,
+        t,
+        Work::Build {
+            kind: core,
+            row: id,
+        },
+    );
     let top = schedule(work, t + 1, kind, id, children, n, left);
     State {
         works: top,
@@ -255,7 +263,7 @@ fn form_row(kind: u32, args: [u32; 6], offset: u32) -> [u32; 8]
     ]
 }
 
-// The row of a form whose arguments' rows are the values on top.
+// The row of a form, of this kind in the core, whose arguments' rows are the values on top.
 fn build_term(
     surface: &[u32],
     core: &mut [u32],
@@ -321,18 +329,19 @@ fn eval(
     WorkStep::Go(schedule_form(surface, work, st, kind, id, left - 1))
 }
 
-// The name of the binder of the form at row `form` comes into scope.
+// The binder of the form at row `form` comes into scope.
 fn enter_binder(surface: &[u32], work: &mut [u32], st: State, form: u32) -> State
     requires { ⌜ (st .locals < names-room) × WorkArea (now work) ⌝ }
-    ensures { λ r. ⌜ (r ≡ record { works = st .works; values = st .values; locals = st .locals + 1 }) × LocalPushed (now (work .entry)) (now (work .exit)) (st .locals) (row-word (now (surface .entry)) form 1) (row-word (now (surface .entry)) form 2) form ⌝ }
+    ensures { λ r. ⌜ (r ≡ record { works = st .works; values = st .values; locals = st .locals + 1 }) × LocalPushed (now (work .entry)) (now (work .exit)) (st .locals) (getD (now (surface .entry)) (form * 8) 0) (row-word (now (surface .entry)) form 1) (row-word (now (surface .entry)) form 2) form ⌝ }
 {
     let t = st.works;
     let v = st.values;
     let l = st.locals;
     let at = form as usize * ROW;
+    let kind = word_at(surface, at);
     let start = word_at(surface, at + 1);
     let length = word_at(surface, at + 2);
-    stacks::push_local(work, l, start, length, form);
+    stacks::push_local(work, l, kind, start, length, form);
     State {
         works: t,
         values: v,
@@ -340,7 +349,7 @@ fn enter_binder(surface: &[u32], work: &mut [u32], st: State, form: u32) -> Stat
     }
 }
 
-// The innermost name goes out of scope.
+// The innermost binder goes out of scope.
 fn leave_binder(st: State) -> State
     requires { ⌜ 0 < st .locals ⌝ }
     ensures { λ r. ⌜ r ≡ record { works = st .works; values = st .values; locals = st .locals - 1 } ⌝ }

@@ -11,7 +11,7 @@ use lib.ListN.{getD, length}
 use borrow.Author.Tests.{ne-eqb, eqb-true, leb-true}
 use Rattle.words.specs.Words.{same-bytes}
 use Rattle.words.proofs.Names.{same-eq}
-use Rattle.terms.specs.Forms.{Form, forms, form-of-kind, arity-of}
+use Rattle.terms.specs.Forms.{Form, forms, forms-0-2, form-of-kind, arity-of}
 use Rattle.terms.specs.Label.{part}
 use Rattle.kind_words.specs.declared.Kind.{Kind}
 use Rattle.kind_words.specs.KindWords.{words, word-of-kind, field-count}
@@ -55,28 +55,29 @@ kinds =
     (0, 0, 0) ∷ (0, 3, 1) ∷ (3, 6, 1) ∷ (9, 8, 0) ∷ (17, 2, 2) ∷ (19, 3, 1) ∷ (22, 3, 2) ∷
     (25, 5, 2) ∷ (30, 4, 2) ∷ (34, 3, 1) ∷ (37, 3, 1) ∷ (40, 2, 3) ∷ (42, 4, 1) ∷ (46, 1, 6) ∷
     (47, 5, 0) ∷ (52, 10, 2) ∷ (62, 4, 0) ∷ (66, 4, 0) ∷ (70, 9, 3) ∷ (79, 3, 0) ∷ (82, 4, 0) ∷
-    (86, 4, 1) ∷ (90, 8, 4) ∷ (98, 3, 2) ∷ (101, 3, 0) ∷ []
+    (86, 4, 1) ∷ (90, 8, 4) ∷ (98, 3, 2) ∷ (101, 3, 0) ∷ (0, 0, 2) ∷ []
 
-pub kind-right : (k : ℕ) → k < 25 → (d : Kind) → Right k (getD kinds k d)
-unfolding kinds all-right is-right same-bytes words word-of-kind field-count forms form-of-kind arity-of
+pub kind-right : (k : ℕ) → k < 26 → (d : Kind) → Right k (getD kinds k d)
+unfolding kinds all-right is-right same-bytes words word-of-kind field-count forms forms-0-2 form-of-kind arity-of
 kind-right k h d = rw zero-add at (right-at kinds 0 refl k h d)
 
--- No form has a kind from 25 on.
+-- No form has a kind from 26 on.
 all-below : List Form → Bool
 all-below [] = true
-all-below (f ∷ l) = leb (f .kind) 24 && all-below l
+all-below (f ∷ l) = leb (f .kind) 25 && all-below l
 
-no-form : (l : List Form) → all-below l ≡ true → (k : ℕ) → 25 ≤ k → form-of-kind k l ≡ none
+no-form : (l : List Form) → all-below l ≡ true → (k : ℕ) → 26 ≤ k → form-of-kind k l ≡ none
 unfolding form-of-kind all-below
 no-form [] t k h = refl
 no-form (f ∷ l) t k h =
-    let b = leb-true (f .kind) 24 (left (leb (f .kind) 24) (all-below l) t) in
-    rw (ne-eqb k (f .kind) (λ e. omega arith), form-of-kind) (no-form l (right (leb (f .kind) 24) (all-below l) t) k h)
+    let b = leb-true (f .kind) 25 (left (leb (f .kind) 25) (all-below l) t) in
+    rw (ne-eqb k (f .kind) (λ e. omega arith), form-of-kind) (no-form l (right (leb (f .kind) 25) (all-below l) t) k h)
 
-pub none-right : (k : ℕ) → 25 ≤ k → Right k (0, 0, 0)
-unfolding all-below forms word-of-kind field-count arity-of
+pub none-right : (k : ℕ) → 26 ≤ k → Right k (0, 0, 0)
+unfolding all-below forms forms-0-2 word-of-kind field-count arity-of
 none-right k h =
     let n = no-form forms refl k h in
+    let m = no-form forms-0-2 refl k h in
     let a = ne-eqb k 1 (λ e. omega arith) in
     let b = ne-eqb k 2 (λ e. omega arith) in
-    (rw (a, b, n, word-of-kind), rw (a, b, n, field-count, arity-of))
+    (rw (a, b, n, word-of-kind), rw (a, b, m, field-count, arity-of))

@@ -10,7 +10,7 @@ pub const WORDS: [u8; 104] =
 // Start and length of a kind's word in WORDS, and how many numbers stand behind the word in a row's line of the listing.
 pub struct Kind(pub u8, pub u8, pub u8);
 
-const KINDS: [Kind; 25] = [
+const KINDS: [Kind; 26] = [
     Kind(0, 0, 0), // no kind
     Kind(0, 3, 1), // var
     Kind(3, 6, 1), // global
@@ -36,6 +36,7 @@ const KINDS: [Kind; 25] = [
     Kind(90, 8, 4), // nat-elim
     Kind(98, 3, 2), // ann
     Kind(101, 3, 0), // ref
+    Kind(0, 0, 2), // an arrow, which no core row is
 ];
 
 pub fn kind_at(kind: u32) -> Kind
@@ -43,7 +44,7 @@ pub fn kind_at(kind: u32) -> Kind
     ensures { λ r. ⌜ r .2 ≡ field-count kind ⌝ }
 {
     let i = kind as usize;
-    if i < 25 {
+    if i < 26 {
         return KINDS[i];
     }
     Kind(0, 0, 0)

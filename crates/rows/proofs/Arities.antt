@@ -4,14 +4,15 @@ use mathlib.Core.Path.{_≡_, refl, sym, ap, _∙_}
 use mathlib.Core.Bool.{Bool, true, false, not, _&&_, and-eq-true-iff}
 use mathlib.Core.List.{List, [], _∷_}
 use mathlib.Core.Option.{none}
-use native.Mathlib.Decide.{decLt}
+use native.Mathlib.Decide.{decLt, ℕ-discrete}
 use native.Mathlib.Omega.{arith}
 use native.Mathlib.Nat.{add-zero, zero-add, not-suc-le-zero}
 use lib.Dec.{eqb, ltb, leb}
 use lib.ListN.{getD, replicate, getD-replicate}
 use borrow.Author.Tests.{ne-eqb, ltb-true, leb-true, lt-leb}
 use Rattle.terms.specs.TextForms.{text-forms}
-use Rattle.terms.specs.Forms.{Form, forms, form-of-kind, arity-of, holds-span, holds-span-in}
+use Rattle.terms.proofs.Arrow.{counts-never, arity-counts}
+use Rattle.terms.specs.Forms.{Form, arrow, counts-as, forms, forms-0-2, form-of-kind, arity-of, holds-span, holds-span-in}
 
 -- The values of f at i, i + 1, .. , n of them.
 module _ {A : Type 0} (f : ℕ → A) where
@@ -51,18 +52,35 @@ no-form n k (f ∷ l) e h =
     let b = and-eq-true-iff (ltb (f .kind) n) (every (λ g. ltb (g .kind) n) l) .0 e in
     rw (ne-eqb k (f .kind) (λ q. omega (arith, ltb-true (f .kind) n (b .0))), form-of-kind) (no-form n k l (b .1) h)
 
--- No form has a kind from 25 on.
-no-kind : (k : ℕ) → 25 ≤ k → form-of-kind k forms ≡ none
-unfolding forms
-no-kind k h = no-form 25 k forms refl h
+-- No form has a kind from 26 on.
+no-kind : (k : ℕ) → 26 ≤ k → form-of-kind k forms-0-2 ≡ none
+unfolding forms forms-0-2
+no-kind k h = no-form 26 k forms-0-2 refl h
 
-pub no-arity : (k : ℕ) → 25 ≤ k → arity-of k ≡ 0
+span-arrow : holds-span arrow ≡ false
+unfolding holds-span-in form-of-kind forms-0-2
+span-arrow = refl
+
+pub no-arity : (k : ℕ) → 26 ≤ k → arity-of k ≡ 0
 unfolding arity-of
 no-arity k h = rw (no-kind k h, arity-of)
 
+-- The arity by what a kind counts as.
+module _ (j k : ℕ) (e : j ≡ counts-as k) where
+  pub arity-by : arity-of j ≡ arity-of k
+  arity-by = ap arity-of e ∙ arity-counts k
+
+  pub no-arity-by : 25 ≤ j → 0 ≡ arity-of k
+  no-arity-by h =
+      let n : ¬ (j ≡ arrow) = λ q. counts-never k (sym e ∙ q) in
+      sym (no-arity j (omega arith)) ∙ arity-by
+
 pub no-span : (k : ℕ) → 25 ≤ k → holds-span k ≡ false
 unfolding holds-span-in
-no-span k h = rw (no-kind k h, holds-span-in)
+no-span k h = elim (ℕ-discrete k arrow) [
+  | yes e ↦ ap holds-span e ∙ span-arrow
+  | no n ↦ rw (no-kind k (omega arith), holds-span-in)
+]
 
 -- In core text the kinds 1 to 3 hold a numeral.
 pub holds-numeral : (k : ℕ) → holds-span-in text-forms k ≡ not (eqb k 0) && leb k 3
@@ -74,8 +92,8 @@ holds-numeral k = elim (decLt k 25) [
 
 -- No term has more than six arguments.
 pub arity-at-most-six : (k : ℕ) → arity-of k ≤ 6
-unfolding forms form-of-kind arity-of
-arity-at-most-six k = elim (decLt k 25) [
-  | yes h ↦ leb-true (arity-of k) 6 (sym (value-at (λ j. leb (arity-of j) 6) (replicate 25 true) true 25 k refl h) ∙ getD-replicate 25 k true true h)
+unfolding forms forms-0-2 form-of-kind arity-of
+arity-at-most-six k = elim (decLt k 26) [
+  | yes h ↦ leb-true (arity-of k) 6 (sym (value-at (λ j. leb (arity-of j) 6) (replicate 26 true) true 26 k refl h) ∙ getD-replicate 26 k true true h)
   | no h ↦ omega (arith, no-arity k (omega arith))
 ]

@@ -5,8 +5,9 @@ use mathlib.Core.Logic.{_⊎_, inl, inr}
 use mathlib.Core.Bool.{Bool, true, false, _||_}
 use lib.Dec.{eqb}
 use borrow.Author.Tests.{ne-eqb}
-use Rattle.terms.specs.Forms.{pi, lam, sigma}
+use Rattle.terms.specs.Forms.{pi, lam, sigma, arrow, counts-as}
 use Rattle.terms.specs.Resolution.{covers}
+use Rattle.terms.proofs.Arrow.{counts-same}
 
 or-false : (b : Bool) → b ≡ b || false
 or-false true = refl
@@ -20,5 +21,9 @@ module _ (k i : ℕ) where
   pub covers-first : k ≡ lam → eqb i 0 ≡ covers k i
   covers-first e = ap (λ (k : ℕ). covers k i) (sym e)
 
-  pub covers-none : (k ≡ pi → ⊥) → (k ≡ sigma → ⊥) → (k ≡ lam → ⊥) → covers k i ≡ false
-  covers-none p q r = rw (ne-eqb k pi p, ne-eqb k sigma q, ne-eqb k lam r)
+  pub covers-none : (k ≡ pi → ⊥) → (k ≡ sigma → ⊥) → (k ≡ lam → ⊥) → (k ≡ arrow → ⊥) → covers k i ≡ false
+  covers-none p q r u = rw (ne-eqb k pi p, ne-eqb k sigma q, ne-eqb k lam r, ne-eqb k arrow u)
+
+-- An arrow covers what a pi covers.
+pub covers-counts : (j k i : ℕ) → j ≡ counts-as k → covers j i ≡ covers k i
+covers-counts j k i e = ap (λ (x : ℕ). covers x i) e ∙ counts-same (λ x. covers x i) refl k

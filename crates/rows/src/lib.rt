@@ -8,7 +8,7 @@ ghost use mathlib.Core.Bool.{cond};
 ghost use mathlib.Core.List.{[], _∷_, _++_};
 ghost use Prim.Native.Nat.{_+_, _*_};
 ghost use lib.ListN.{getD, take};
-ghost use Rattle.terms.specs.Forms.{arity-of, holds-span, holds-span-in};
+ghost use Rattle.terms.specs.Forms.{counts-as, arity-of, holds-span, holds-span-in};
 ghost use Rattle.terms.specs.Label.{part};
 ghost use Rattle.terms.specs.Resolution.{kept, covers};
 ghost use Rattle.terms.specs.Rows.{pad, row, core-words};
@@ -16,22 +16,38 @@ ghost use Rattle.terms.specs.TextForms.{text-forms};
 ghost use Rattle.rows.specs.Places.{has-place, stored-at};
 ghost use Rattle.rows.specs.DeclarationRows.{row-behind, first-row};
 
+// The kinds of edition 0 2's arrow, and of the pi that it counts as.
+const ARROW: u32 = 25;
+
+const PI: u32 = 4;
+
 // How many arguments a term of each kind has: octal digits, the last one for kind 3. An array would be copied where it is read.
 const ARITIES: u64 = 0o241_003_002_061_311_222_120;
 
 // Whether a term of each kind has the start and length of a name or numeral in its row: bits, the last one for kind 0.
 const SPANS: u32 = 0b1_0000_0000_0000_0000_1011_1000;
 
+// The kind of a term's core row, if it is kept: an arrow becomes a pi. It has a pi's arguments too, and covers the same one.
+pub fn core_kind(kind: u32) -> u32
+    ensures { λ r. ⌜ r ≡ counts-as kind ⌝ }
+{
+    if kind == ARROW {
+        return PI;
+    }
+    kind
+}
+
 pub fn arity(kind: u32) -> u32
     ensures { λ r. ⌜ r ≡ arity-of kind ⌝ }
 {
-    if kind < 3 {
+    let k = core_kind(kind);
+    if k < 3 {
         return 0;
     }
-    if 24 < kind {
+    if 24 < k {
         return 0;
     }
-    let digit = kind as u64 - 3;
+    let digit = k as u64 - 3;
     ((ARITIES >> (3 * digit)) % 8) as u32
 }
 
@@ -48,7 +64,8 @@ pub fn holds_span(kind: u32) -> bool
 pub fn covers(kind: u32, i: usize) -> bool
     ensures { λ r. ⌜ r ≡ covers kind i ⌝ }
 {
-    match kind {
+    let k = core_kind(kind);
+    match k {
         4 | 7 => i == 1,
         5 => i == 0,
         _ => false,
@@ -99,7 +116,14 @@ pub fn holds_numeral(kind: u32) -> bool
 pub fn core_row(label: Label, args: [u32; 6], len: u32) -> [u32; 8]
     ensures { λ r. ⌜ r ≡ core-words label kept (take len args) ⌝ }
 {
-    row_words(label, label.kind == 3, args, len)
+    let kind = label.kind;
+    let core = Label {
+        kind: core_kind(kind),
+        start: label.start,
+        length: label.length,
+        offset: label.offset,
+    };
+    row_words(core, kind == 3, args, len)
 }
 
 // The row of a var with its count, or of a global with its place, for a reference at an offset.

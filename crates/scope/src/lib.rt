@@ -15,8 +15,13 @@ ghost use Rattle.scope.specs.Index.{places, all-slots, mixed, bit-of, na
 // How many words a declaration record has.
 const RECORD: usize = 5;
 
-// The rows of the locals' forms stand behind the spans of 512 names, so that the walk over names goes by pairs of words.
+// The rows and the kinds of the locals' forms stand behind the spans of 512 names, so that the walk over names goes by pairs of words.
 const ROWS: usize = 1024;
+
+const KINDS: usize = 1536;
+
+// Edition 0 2's arrow, a binder that no name reaches.
+const ARROW: u32 = 25;
 
 // The index of names: how many heads it has, and for how many places it has two links each. A source of 65,535 bytes has fewer declarations.
 const HEADS: usize = 4096;
@@ -41,7 +46,7 @@ enum Found {
     Nothing,
 }
 
-// A name in scope: how many others stand inside of it, and the row of the form that binds it.
+// A name in scope: how many binders stand inside of it, and the row of the form that binds it.
 enum FoundLocal {
     At { count: u32, row: u32 },
     Nothing,
@@ -76,7 +81,7 @@ fn is_name(s: &[u8], start: u32, length: u32, x: &[u8]) -> bool
 }
 
 // How many binders lie between a name and the innermost one of that name, and its row. A part is no longer than it says: most are passed by
-// their length.
+// their length. An arrow's length is 0 and its kind is looked at last.
 fn find_local(s: &[u8], work: &[u32], depth: usize, start: u32, length: u32) -> FoundLocal
     requires { ⌜ Binders (now work) depth ⌝ }
     ensures { λ r. ⌜ found-of r ≡ lookup (part (now (s .entry)) start length) (in-scope (now (s .entry)) (now (work .entry)) depth) ⌝ }
@@ -88,11 +93,14 @@ fn find_local(s: &[u8], work: &[u32], depth: usize, start: u32, length: u32) -> 
         if x.len() <= n as usize {
             let a = work[d * 2 - 2];
             if is_name(s, a, n, x) {
-                let count = depth - d;
-                return FoundLocal::At {
-                    count: count as u32,
-                    row: work[ROWS + d - 1],
-                };
+                let kind = work[KINDS + d - 1];
+                if kind != ARROW {
+                    let count = depth - d;
+                    return FoundLocal::At {
+                        count: count as u32,
+                        row: work[ROWS + d - 1],
+                    };
+                }
             }
         }
         d -= 1;

@@ -7,6 +7,7 @@ use native.Mathlib.Nat.{add-zero, add-suc}
 use lib.ListN.{length, getD, take, length-append}
 use lib.Seq.{take-append-le, take-all}
 use Rattle.terms.specs.Label.{part}
+use Rattle.terms.specs.Resolution.{bound-name}
 use Rattle.terms.specs.Lookup.{local-of}
 use Rattle.scope.specs.Scope.{in-scope}
 use Rattle.stacks.specs.Stacks.{work-of, works-in, values-in}
@@ -54,12 +55,13 @@ module _ (w w' : List ℕ) where
       let a = h (2048 + v) (omega arith) (omega arith) in
       λ k. front k ++ (a k ∷ [])
 
-  pub same-locals : (s : List ℕ) (l : ℕ) → Same w w' 0 (l * 2) → Same w w' 1024 (1024 + l) → in-scope s w' l ≡ in-scope s w l
+  pub same-locals : (s : List ℕ) (l : ℕ) → Same w w' 0 (l * 2) → Same w w' 1024 (1024 + l) → Same w w' 1536 (1536 + l) → in-scope s w' l ≡ in-scope s w l
   unfolding in-scope
-  same-locals s zero h r = refl
-  same-locals s (suc l) h r =
-      let tail = same-locals s l (λ j p q. h j p (omega arith)) (λ j p q. r j p (omega arith)) in
+  same-locals s zero h r n = refl
+  same-locals s (suc l) h r n =
+      let tail = same-locals s l (λ j p q. h j p (omega arith)) (λ j p q. r j p (omega arith)) (λ j p q. n j p (omega arith)) in
       let a = h (l * 2) (omega arith) (omega arith) in
       let b = h (l * 2 + 1) (omega arith) (omega arith) in
       let c = r (1024 + l) (omega arith) (omega arith) in
-      λ k. local-of (part s (a k) (b k)) (c k) ∷ tail k
+      let d = n (1536 + l) (omega arith) (omega arith) in
+      λ k. local-of (bound-name (d k) (part s (a k) (b k))) (c k) ∷ tail k

@@ -1,5 +1,5 @@
--- The three stacks in the work area: names in scope, their starts and lengths from word 0 and the rows of their forms from word 1,024, values from word
--- 2,048, work items from word 5,120. There is room for 512 names, for 3,072 values, and for 3,754 work items of three words.
+-- The three stacks in the work area: local binders, the starts and lengths of their names from word 0, the rows of their forms from word 1,024 and the kinds
+-- from word 1,536; values from word 2,048; work items from word 5,120. There is room for 512 binders, for 3,072 values, and for 3,754 work items of three words.
 use Prim.Native.Nat.{ℕ, zero, suc, _+_, _*_, _≤_}
 use mathlib.Core.Path.{_≡_}
 use mathlib.Core.List.{List, [], _∷_, _++_}
@@ -7,11 +7,12 @@ use mathlib.Core.Bool.{true, false}
 use lib.ListN.{length, getD}
 use lib.Dec.{eqb}
 use Rattle.terms.specs.Label.{part}
+use Rattle.terms.specs.Resolution.{bound-name}
 use Rattle.terms.specs.Lookup.{local-of}
 use Rattle.scope.specs.Scope.{in-scope}
 use Rattle.stacks.specs.declared.Work.{Work}
 
--- How many names in scope, values and work items there is room for.
+-- How many local binders, values and work items there is room for.
 abbrev pub names-room : ℕ
 names-room = 512
 
@@ -57,7 +58,8 @@ pub record ValuePushed (w w' : List ℕ) (v value : ℕ) : Type 0 where
   pub values : values-in w' (v + 1) ≡ values-in w v ++ (value ∷ [])
   pub locals : (s : List ℕ) (l : ℕ) → l ≤ names-room → in-scope s w' l ≡ in-scope s w l
 
-pub record LocalPushed (w w' : List ℕ) (l start n row : ℕ) : Type 0 where
+-- A form's binder has come into scope.
+pub record LocalPushed (w w' : List ℕ) (l kind start n row : ℕ) : Type 0 where
   pub works : (t : ℕ) → works-in w' t ≡ works-in w t
   pub values : (v : ℕ) → values-in w' v ≡ values-in w v
-  pub locals : (s : List ℕ) → in-scope s w' (l + 1) ≡ local-of (part s start n) row ∷ in-scope s w l
+  pub locals : (s : List ℕ) → in-scope s w' (l + 1) ≡ local-of (bound-name kind (part s start n)) row ∷ in-scope s w l

@@ -1,24 +1,32 @@
-// The stacks of `elaborate_term` in the lent work area: names in scope, values and work items, each with a part of the 16,384 words.
+// The stacks of `elaborate_term` in the lent work area: local binders, values and work items, each with a part of the 16,384 words.
 // The port of `Work`, `push_work`, `push_value` and `pop_values` in surface/elaborate.rs.
 ghost use mathlib.Core.Path.{_≡_};
+ghost use mathlib.Core.Bool.{cond};
 ghost use mathlib.Core.List.{_∷_};
 ghost use Prim.Native.Nat.{_+_, _<_, _≤_};
+ghost use lib.Dec.{eqb};
 ghost use lib.ListN.{drop};
+ghost use Rattle.terms.specs.Forms.{arrow};
 ghost use Rattle.terms.specs.Rows.{pad};
 ghost use Rattle.stacks.specs.Stacks.{works-room, values-room, names-room, works-in, values-in, work-of, WorkArea, WorkPushed, ValuePushed, LocalPushed};
 
 // "11 work area under 16,384 words"
 pub const AREA: usize = 16384;
 
-// A name in scope has two words from word 0 on, its start and length, and one from here on, the row of the form that binds it.
+// A local binder has two words from word 0 on, the start and length of its name, and one each from here on, its form's row and kind.
 const ROWS: usize = 1024;
+
+const KINDS: usize = 1536;
+
+// Edition 0 2's arrow.
+const ARROW: u32 = 25;
 
 const VALUES: usize = 2048;
 
 const WORKS: usize = 5120;
 
 // An Eval keeps how many forms may still be opened in its row, a PushLocal the row of the form whose binder comes into scope, a Build the row
-// that it is for.
+// that it is for and its kind in the core.
 pub enum Work {
     Eval { row: u32, left: u32 },
     PushLocal { row: u32 },
@@ -97,13 +105,25 @@ pub fn pop_values(work: &[u32], v: usize, n: usize) -> [u32; 6]
     values
 }
 
-// One more name, inside of l others.
-pub fn push_local(work: &mut [u32], l: usize, start: u32, length: u32, row: u32)
+// An arrow binds no name: with the length 0 the walk over names passes it by at once.
+fn name_length(kind: u32, length: u32) -> u32
+    ensures { λ r. ⌜ r ≡ cond (eqb kind arrow) 0 length ⌝ }
+{
+    if kind == ARROW {
+        return 0;
+    }
+    length
+}
+
+// One more binder, of a form of some kind, inside of l others.
+pub fn push_local(work: &mut [u32], l: usize, kind: u32, start: u32, length: u32, row: u32)
     requires { ⌜ (l < names-room) × WorkArea (now work) ⌝ }
-    ensures { λ r. ⌜ LocalPushed (now (work .entry)) (now (work .exit)) l start length row ⌝ }
+    ensures { λ r. ⌜ LocalPushed (now (work .entry)) (now (work .exit)) l kind start length row ⌝ }
 {
     let at = l * 2;
+    let n = name_length(kind, length);
     work[at] = start;
-    work[at + 1] = length;
+    work[at + 1] = n;
     work[ROWS + l] = row;
+    work[KINDS + l] = kind;
 }

@@ -4,6 +4,7 @@ use mathlib.Core.Path.{refl, ap, ap₂, _∙_}
 use mathlib.Core.List.{List}
 use native.Mathlib.Omega.{arith}
 use lib.ListN.{length, take}
+use Rattle.terms.specs.Forms.{counts-as}
 use Rattle.rows.proofs.Arities.{arity-at-most-six}
 use Rattle.elaborate.specs.RowTerm.{six-at}
 use Rattle.elaborate.proofs.Scheduling.{form-pushed}
@@ -24,6 +25,9 @@ holds-span-requires c κs = search needs
 row-children-requires : tie.Need-row-children-requires
 row-children-requires c κs = search needs
 
+core-kind-requires : tie.Need-core-kind-requires
+core-kind-requires c κs = search needs
+
 push-work-requires : tie.Need-push-work-requires
 push-work-requires c κs = search needs
 
@@ -32,10 +36,10 @@ add-schedule c = search needs
 
 schedule-requires : tie.Need-schedule-requires
 schedule-requires c κs =
-    let o = c .before .before .before .before .before .before .before .before .before .before in
+    let o = c .before .before .before .before .before .before .before .before .before .before .before in
     let a = o .args in
-    let n = c .before .before .before .before .before .before .before .arity in
-    let x = c .before .before .before .before .before .row-children in
+    let n = c .before .before .before .before .before .before .before .before .arity in
+    let x = c .before .before .before .before .before .before .row-children in
     (omega (arith, n .ensures, arity-at-most-six (a .kind)), ap length (x .ensures) ∙ length-six (a .surface .now) (a .id) _, omega arith, omega (arith, o .pre .2, c .before .before .before .push-work .kept .0))
 
 same-length : tie.Need-same-length
@@ -43,14 +47,15 @@ same-length c = search needs
 
 returns : tie.Need-returns
 returns c =
-    let o = c .before .before .before .before .before .before .before .before .before .before .before .before .before in
+    let k = c .before .before .before .before .before .before .before .before in
+    let o = k .before .before .before .before .before .before in
     let a = o .args in
-    let n = c .before .before .before .before .before .before .before .before .before .before .arity in
-    let g = c .before .before .before .before .before .before .before .before .before .holds-span in
-    let x = c .before .before .before .before .before .before .before .before .row-children in
+    let n = k .before .before .before .arity in
+    let g = k .before .before .holds-span in
+    let x = k .before .row-children in
     record {
       state = refl;
-      items = form-pushed (a .st .works) (a .kind) (a .left) (a .id) _ _
+      items = form-pushed (a .st .works) (a .kind) (k .core-kind .result) (counts-as (a .kind)) (a .left) (a .id) _ _ (k .core-kind .ensures)
           (ap₂ (λ (m : ℕ) (l : List ℕ). take m l) (n .ensures) (x .ensures ∙ ap (six-at (a .surface .now) (a .id)) (g .ensures)))
           (c .before .before .before .before .before .before .push-work .ensures) (c .before .before .schedule .ensures);
     }
@@ -63,6 +68,7 @@ schedule-form-spec =
     cast-n
     holds-span-requires
     row-children-requires
+    core-kind-requires
     push-work-requires
     add-schedule
     schedule-requires

@@ -1,19 +1,33 @@
 -- `covers` meets its contract.
-use mathlib.Core.Path.{sym}
+use mathlib.Core.Path.{sym, _∙_}
 use mathlib.Core.Logic.{inl, inr}
-use Rattle.rows.proofs.Covering.{covers-second, covers-first, covers-none}
+use borrow.Author.Needs.{needs}
+use Rattle.terms.proofs.Arrow.{counts-never}
+use Rattle.rows.proofs.Covering.{covers-second, covers-first, covers-none, covers-counts}
 use Rattle.rows.proofs.covers.Statement.{statement}
 use Rattle.rows.proofs.covers.Tie as tie
 
+core-kind-requires : tie.Need-core-kind-requires
+core-kind-requires c κs = search needs
+
 returns : tie.Need-returns
-returns c = covers-second (c .before .args .kind) (c .before .args .i) (c .match .keys1)
+returns c =
+    let k = c .before .core-kind in
+    let a = c .before .before .args in
+    covers-second (k .result) (a .i) (c .match .keys1) ∙ covers-counts (k .result) (a .kind) (a .i) (k .ensures)
 
 returns-2 : tie.Need-returns-2
-returns-2 c = covers-first (c .before .args .kind) (c .before .args .i) (c .match .keys2)
+returns-2 c =
+    let k = c .before .core-kind in
+    let a = c .before .before .args in
+    covers-first (k .result) (a .i) (c .match .keys2) ∙ covers-counts (k .result) (a .kind) (a .i) (k .ensures)
 
 returns-3 : tie.Need-returns-3
-returns-3 c = sym (covers-none (c .before .args .kind) (c .before .args .i)
-    (λ e. c .match .rest .0 .1 (inl e)) (λ e. c .match .rest .0 .1 (inr e)) (c .match .rest .1))
+returns-3 c =
+    let k = c .before .core-kind in
+    let a = c .before .before .args in
+    sym (covers-none (k .result) (a .i) (λ e. c .match .rest .0 .1 (inl e)) (λ e. c .match .rest .0 .1 (inr e)) (c .match .rest .1) (λ e. counts-never (a .kind) (sym (k .ensures) ∙ e)))
+    ∙ covers-counts (k .result) (a .kind) (a .i) (k .ensures)
 
 pub covers-spec : {M : Type 1} → statement M
-covers-spec = tie.close (tie.spec returns returns-2 returns-3)
+covers-spec = tie.close (tie.spec core-kind-requires returns returns-2 returns-3)

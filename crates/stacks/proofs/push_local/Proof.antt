@@ -9,6 +9,9 @@ use Rattle.stacks.proofs.push_local.Tie as tie
 mul-at : tie.Need-mul-at
 mul-at c = search needs
 
+name-length-requires : tie.Need-name-length-requires
+name-length-requires c κs = search needs
+
 mul-work : tie.Need-mul-work
 mul-work c = search needs
 
@@ -33,20 +36,30 @@ mul-work-3 c = search needs
 slice-write-work-3 : tie.Need-slice-write-work-3
 slice-write-work-3 c = simp length-set (omega arith)
 
+add-work-3 : tie.Need-add-work-3
+add-work-3 c = search needs
+
+mul-work-4 : tie.Need-mul-work-4
+mul-work-4 c = search needs
+
+slice-write-work-4 : tie.Need-slice-write-work-4
+slice-write-work-4 c = simp length-set (omega arith)
+
 same-length : tie.Need-same-length
 same-length c = search needs
 
 returns : tie.Need-returns
 returns c =
-    let o = c in
+    let o = c .before .before in
     let a = o .args in
-    local-pushed (a .work .now) (o .pre .1) (a .l) (a .start) (a .length) (a .row) (o .pre .0)
+    local-pushed (a .work .now) (o .pre .1) (a .l) (a .kind) (a .start) (a .length) _ (a .row) (c .name-length .ensures) (o .pre .0)
 
 pub push-local-spec : {M : Type 1} → statement M
 push-local-spec =
     tie.close
     (tie.spec
     mul-at
+    name-length-requires
     mul-work
     slice-write-work
     add-work
@@ -55,5 +68,8 @@ push-local-spec =
     add-work-2
     mul-work-3
     slice-write-work-3
+    add-work-3
+    mul-work-4
+    slice-write-work-4
     same-length
     returns)
