@@ -49,7 +49,7 @@ fn read_version(s: &[u8], classes: &[u8], at: usize) -> VersionRead
                     match c {
                         Lexed::Refused(r) => VersionRead::Refused(r),
                         Lexed::Got(close) => {
-                            let supported = expects::is_supported(s, major, minor);
+                            let supported = expects::is_version(s, major, minor, b"1");
                             VersionRead::Got(supported, close.end)
                         }
                     }

@@ -15,7 +15,7 @@ use Rattle.core_token.proofs.Ends.{string-here}
 use Rattle.core_text.specs.TextReading.{string}
 use Rattle.token.proofs.Bounds.{Within, SpanOf, Span}
 use Rattle.words.specs.Words.{same-bytes, identifier, numeral}
-use Rattle.terms.specs.Forms.{Edition, edition-0-1}
+use Rattle.terms.specs.Forms.{Edition}
 use Rattle.surface.specs.Reader.{Position, done, Reader, after, _>>=_, _>>_, pure, require, at-token}
 use Rattle.surface.specs.Reading.{lexed, token, opening, closing, atom, word, natural, name}
 use Rattle.surface.specs.Text.{text, is-open, is-close, is-atom, is-string}
@@ -211,12 +211,16 @@ module _ (s : List ℕ) (p : Position) where
       let w = has-bytes (t .kind) (λ i. let z : _≡_ {A = ℕ} 0 1 = cc in omega arith) (subst (Within (p .offset) (length s)) e (core.bounds s (p .offset))) in
       record { low = omega (arith, w .low); order = omega (arith, q .some); inside = omega arith; ahead = record { past = omega (arith, w .low, w .some); high = w .high; rows = refl } })
 
-pub declared-ahead : (f : Format) (s : List ℕ) (p : Position) → Gives (NameAhead s p) (declared-name f s p)
-unfolding edition-0-1 string token
-declared-ahead Format.Core01 s p = string-by s p (next-core-token s (p .offset)) refl
-declared-ahead Format.Surface01 s p =
-    gives-as (TokenAhead s p) (NameAhead s p) (name edition-0-1 s p) (name-ahead edition-0-1 (bounded Format.Surface01) s p)
+identifier-ahead : (f : Format) (s : List ℕ) (p : Position) → Gives (NameAhead s p) (name (edition f) s p)
+identifier-ahead f s p =
+    gives-as (TokenAhead s p) (NameAhead s p) (name (edition f) s p) (name-ahead (edition f) (bounded f) s p)
     (λ t q a. record { low = a .low; order = omega arith; inside = omega arith; ahead = omega arith })
+
+pub declared-ahead : (f : Format) (s : List ℕ) (p : Position) → Gives (NameAhead s p) (declared-name f s p)
+unfolding string token
+declared-ahead Format.Core01 s p = string-by s p (next-core-token s (p .offset)) refl
+declared-ahead Format.Surface01 s p = identifier-ahead Format.Surface01 s p
+declared-ahead Format.Surface02 s p = identifier-ahead Format.Surface02 s p
 
 -- The same, of what `parse_name` gives.
 pub names-got : (f : Format) (s : List ℕ) (at : ℕ) (r : NameRead) → Names f s at r → (t : Token) (next : ℕ) → r ≡ NameRead.Got t next → (n : ℕ)

@@ -7,7 +7,7 @@ use mathlib.Core.Option.{some}
 use lib.Dec.{eqb, leb}
 use borrow.Author.Tests.{eqb-true, leb-true}
 use Rattle.words.specs.Words.{same-bytes}
-use Rattle.terms.specs.Forms.{Shape, alone, with-name, with-numeral, binding, plain, Form, Edition, edition-0-1, forms, form-of-word, form-of-kind, arity-of}
+use Rattle.terms.specs.Forms.{Shape, alone, with-name, with-numeral, binding, plain, Form, Edition, edition-0-1, edition-0-2, forms, forms-0-2, form-of-word, form-of-kind, arity-of}
 use Rattle.terms.specs.TextForms.{text-forms}
 use Rattle.core_text.specs.TextReading.{text-edition}
 use Rattle.expects.specs.declared.Format.{Format}
@@ -64,14 +64,11 @@ found w f (g ∷ l) a e = let b = both (fits g) (all-fit l) a in by (same-bytes 
     by true q this later = let h : some g ≡ some f = rw (q, form-of-word) at e in let i : g ≡ f = cc in rw i at this
     by false q this later = later (rw (q, form-of-word) at e)
 
-all-forms-fit : all-fit forms ≡ true
-unfolding forms arity-of form-of-kind
-all-forms-fit = refl
-
 -- The forms of every format.
 format-fits : (m : Format) → all-fit (edition m .forms) ≡ true
-unfolding edition-0-1 text-edition text-forms forms arity-of form-of-kind
-format-fits Format.Surface01 = all-forms-fit
+unfolding edition-0-1 edition-0-2 text-edition text-forms forms forms-0-2 arity-of form-of-kind
+format-fits Format.Surface01 = refl
+format-fits Format.Surface02 = refl
 format-fits Format.Core01 = refl
 
 pub fitting : (m : Format) → Fits (edition m)

@@ -1,16 +1,16 @@
--- The forms of core text, by those of a source.
+-- The forms of surface 0 2 and of core text, by those of surface 0 1.
 use mathlib.Core.Path.{_≡_, refl, sym, _∙_, ap, subst}
 use mathlib.Core.Bool.{Bool, true, false, _&&_}
 use mathlib.Core.List.{List, [], _∷_}
 use mathlib.Core.Option.{Option, none, some}
-use Prim.Native.Nat.{ℕ}
+use Prim.Native.Nat.{ℕ, _<_}
 use native.Mathlib.Omega.{arith}
 use lib.Dec.{eqb}
 use borrow.Author.Tests.{ne-eqb}
 use Rattle.words.specs.Words.{ascii, same-bytes}
 use Rattle.words.proofs.Names.{same-eq}
-use Rattle.terms.specs.Forms.{Shape, alone, with-name, with-numeral, binding, plain, Form, forms, form-of-word}
-use Rattle.terms.specs.TextForms.{unbound, without-name, without-names, text-forms}
+use Rattle.terms.specs.Forms.{Shape, alone, with-name, with-numeral, binding, plain, Form, forms, forms-0-2, form-of-word}
+use Rattle.terms.specs.TextForms.{without-name, without-names, text-forms}
 use Rattle.expects.specs.declared.FormOfWord.{FormOfWord}
 use Rattle.expects.specs.FormOfWord.{form-numbers, unnamed-numbers}
 use Rattle.expects.proofs.Arities.{both}
@@ -92,6 +92,14 @@ module _ (w : List ℕ) where
     unfolding text-forms form-of-word
     other-form e = rw (v, e, form-of-word) (without w forms forms-single)
 
+  pub arrow-form : same-bytes w (ascii "arrow") ≡ true → form-numbers (form-of-word w forms-0-2) ≡ record { kind = 25; shape = 5 }
+  unfolding forms-0-2 form-of-word
+  arrow-form e = rw (e, form-of-word)
+
+  pub no-arrow : same-bytes w (ascii "arrow") ≡ false → form-numbers (form-of-word w forms-0-2) ≡ form-numbers (form-of-word w forms)
+  unfolding forms-0-2 form-of-word
+  no-arrow e = rw (e, form-of-word)
+
 -- A form without its name, by its shape's number.
 module _ (f : FormOfWord) where
   pub unnamed-two : f .shape ≡ 2 → record { kind = 0; shape = 0 } ≡ unnamed-numbers f
@@ -116,11 +124,11 @@ alone-unnamed g = record { there = λ e. rw e; back = by (eqb (g .shape) 2) refl
     by false p true q e = let z : _≡_ {A = ℕ} 5 1 = rw (p, q) at e in absurd (omega arith)
     by false p false q e = rw (p, q) at e
 
--- A word that has no form in a source, and a form with a numeral in core text.
-alone-neither : (g h : FormOfWord) (k : ℕ) → g ≡ record { kind = 0; shape = 0 } → h ≡ record { kind = k; shape = 3 } → Alone g h
-alone-neither g h k p q = record {
+-- A word that has no form in surface 0 1, and one with a parenthesis in another format.
+alone-neither : (g h : FormOfWord) (k m : ℕ) → g ≡ record { kind = 0; shape = 0 } → h ≡ record { kind = k; shape = m } → 1 < m → Alone g h
+alone-neither g h k m p q o = record {
   there = λ e. let z : _≡_ {A = ℕ} 0 1 = sym (ap (λ (x : FormOfWord). x .shape) p) ∙ e in absurd (omega arith);
-  back = λ e. let z : _≡_ {A = ℕ} 3 1 = sym (ap (λ (x : FormOfWord). x .shape) q) ∙ e in absurd (omega arith);
+  back = λ e. let z : m ≡ 1 = sym (ap (λ (x : FormOfWord). x .shape) q) ∙ e in absurd (omega arith);
 }
 
 no-form : (w v : List ℕ) → same-bytes w v ≡ true → form-numbers (form-of-word v forms) ≡ record { kind = 0; shape = 0 } → form-numbers (form-of-word w forms) ≡ record { kind = 0; shape = 0 }
@@ -134,10 +142,21 @@ no-global : form-numbers (form-of-word (ascii "global") forms) ≡ record { kind
 unfolding forms form-of-word same-bytes
 no-global = refl
 
+no-arrow-form : form-numbers (form-of-word (ascii "arrow") forms) ≡ record { kind = 0; shape = 0 }
+unfolding forms form-of-word same-bytes
+no-arrow-form = refl
+
+pub alone-arrow : (w : List ℕ) → Alone (form-numbers (form-of-word w forms)) (form-numbers (form-of-word w forms-0-2))
+alone-arrow w = by (same-bytes w (ascii "arrow")) refl
+  where
+    by : (a : Bool) → same-bytes w (ascii "arrow") ≡ a → Alone (form-numbers (form-of-word w forms)) (form-numbers (form-of-word w forms-0-2))
+    by true p = alone-neither _ _ 25 5 (no-form w (ascii "arrow") p no-arrow-form) (arrow-form w p) (omega arith)
+    by false p = subst (Alone (form-numbers (form-of-word w forms))) (sym (no-arrow w p)) (record { there = λ e. refl; back = λ e. e })
+
 pub alone-text : (w : List ℕ) → Alone (form-numbers (form-of-word w forms)) (form-numbers (form-of-word w text-forms))
 alone-text w = by (same-bytes w (ascii "var")) refl (same-bytes w (ascii "global")) refl
   where
     by : (a : Bool) → same-bytes w (ascii "var") ≡ a → (b : Bool) → same-bytes w (ascii "global") ≡ b → Alone (form-numbers (form-of-word w forms)) (form-numbers (form-of-word w text-forms))
-    by true p b q = alone-neither _ _ 1 (no-form w (ascii "var") p no-var) (var-form w p)
-    by false p true q = alone-neither _ _ 2 (no-form w (ascii "global") q no-global) (global-form w p q)
+    by true p b q = alone-neither _ _ 1 3 (no-form w (ascii "var") p no-var) (var-form w p) (omega arith)
+    by false p true q = alone-neither _ _ 2 3 (no-form w (ascii "global") q no-global) (global-form w p q) (omega arith)
     by false p false q = subst (Alone (form-numbers (form-of-word w forms))) (sym (other-form w p q)) (alone-unnamed (form-numbers (form-of-word w forms)))

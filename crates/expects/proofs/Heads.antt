@@ -1,7 +1,6 @@
 -- The head stands ahead, and its name within the source.
 use Prim.Native.Nat.{ℕ}
 use mathlib.Core.Path.{_≡_, refl, sym, _∙_, ap, subst}
-use mathlib.Core.Bool.{Bool, true, false, _&&_}
 use mathlib.Core.List.{List}
 use mathlib.Core.Option.{Option, none, some}
 use native.Mathlib.Omega.{arith}
@@ -10,8 +9,8 @@ use Rattle.token.specs.Token.{next-token}
 use Rattle.token.specs.declared.Token.{Token}
 use Rattle.token.specs.declared.Lexed.{Lexed}
 use Rattle.token.proofs.Bounds.{bounds, Within}
-use Rattle.words.specs.Words.{ascii, same-bytes}
-use Rattle.terms.specs.Forms.{Edition, edition-0-1}
+use Rattle.words.specs.Words.{ascii}
+use Rattle.terms.specs.Forms.{Edition}
 use Rattle.surface.specs.Reader.{Position}
 use Rattle.surface.specs.Reading.{opening, closing, word, natural, name, edition-of, supported, surface-line, module-line, head}
 use Rattle.surface.specs.Text.{text}
@@ -19,6 +18,7 @@ use Rattle.expects.specs.declared.HeadRead.{HeadRead}
 use Rattle.expects.specs.declared.Format.{Format}
 use Rattle.expects.specs.Expects.{position-at, head-read, Heads}
 use Rattle.expects.specs.Tokens.{TokenInside}
+use Rattle.surface.proofs.Editions.{edition-meets}
 use Rattle.expects.proofs.Gives.{Gives, given, gives-after}
 use Rattle.expects.proofs.Ahead.{Source, Ahead, TokenAhead, opening-ahead, closing-ahead, word-ahead, natural-ahead, name-ahead}
 
@@ -35,12 +35,12 @@ module _ (s : List ℕ) (p : Position) where
   Read E q = (E .tokens ≡ next-token) × Ahead s p q
 
   supported-ahead : (a b : List ℕ) (q : Position) → Ahead s p q → Gives Read (supported (edition-of a b) q)
-  unfolding supported edition-of edition-0-1
-  supported-ahead a b q h = by (same-bytes a (ascii "0") && same-bytes b (ascii "1"))
+  unfolding supported
+  supported-ahead a b q h = by (edition-of a b) refl
     where
-      by : (c : Bool) → Gives Read (supported (elim c as (λ _. Option Edition) [ true ↦ some edition-0-1 | false ↦ none ]) q)
-      by true = (refl, h)
-      by false = tt
+      by : (o : Option Edition) → edition-of a b ≡ o → Gives Read (supported o q)
+      by (some E) e = (edition-meets a b E e .tokens, h)
+      by none e = tt
 
   surface-ahead : Gives Read (surface-line s p)
   unfolding surface-line

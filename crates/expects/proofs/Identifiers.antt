@@ -1,6 +1,6 @@
 -- An identifier that is told by the class numbers of its bytes.
 use Prim.Native.Nat.{ℕ, zero, suc, _+_, _-_, _≤_, _<_}
-use mathlib.Core.Path.{_≡_, refl, sym, _∙_, subst}
+use mathlib.Core.Path.{_≡_, refl, sym, _∙_, ap}
 use mathlib.Core.Bool.{true, false}
 use mathlib.Core.List.{List}
 use native.Mathlib.Omega.{arith}
@@ -13,12 +13,12 @@ use Rattle.token.specs.declared.Lexed.{Lexed}
 use Rattle.token.specs.declared.Lexed.the-variants.{Got}
 use Rattle.token.proofs.Classes as classes
 use Rattle.token.proofs.Runs.{drop-next}
-use Rattle.words.specs.Words.{reserved, all, name-byte, identifier}
+use Rattle.words.specs.Words.{all, name-byte, identifier}
 use Rattle.words.specs.declared.NameTest.{NameTest}
-use Rattle.terms.specs.Forms.{Edition, edition-0-1}
+use Rattle.terms.specs.Forms.{Edition}
 use Rattle.surface.specs.Reading.{token, atom, name}
 use Rattle.expects.specs.declared.Format.{Format}
-use Rattle.expects.specs.Formats.{edition}
+use Rattle.expects.specs.Formats.{edition, OfSource}
 use Rattle.expects.specs.Expects.{Reads}
 use Rattle.expects.proofs.Tokens.{atom-kind, kind-got, name-tested}
 
@@ -48,32 +48,26 @@ module _ (s : List ℕ) where
         rw (e, drop-next s start (omega (arith, x .within)), identifier, classes.name-start (getD s start 0) (omega (arith, x .begins)))
         (all-names n (start + 1) (omega (arith, x .within)) (λ i l u. x .bytes i (omega arith) (omega arith)))
 
-    pub identifier-found : reserved (take (end - start) (drop start s)) ≡ false → Reads (name (edition Format.Surface01) s) start (Got (found start end))
-    unfolding edition-0-1
-    identifier-found r =
-        name-tested (edition Format.Surface01) s start (Got (found start end)) (λ n. atom-kind (next-token s) _ ∙ kind-got (next-token s) TokenKind.Atom start (Got (found start end)) (sym (x .here)) (found start end) refl refl n)
-        (found start end) refl NameTest.Name (rw (r, is-identifier))
-
 -- What is read behind layout is read before it.
 pub name-behind : (E : Edition) (s : List ℕ) (at r : ℕ) → E .tokens s r ≡ E .tokens s at → (x : Lexed) → Reads (name E s) r x → Reads (name E s) at x
 unfolding name atom token
 name-behind E s at r e x h = λ n. rw (sym e) (h n)
 
--- The same in whichever format is a source's.
-pub identifier-in : (f : Format) (s : List ℕ) (at start end : ℕ) → edition f .tokens s start ≡ edition f .tokens s at → start < end → f ≡ Format.Surface01
-    → NameAt s start end → reserved (take (end - start) (drop start s)) ≡ false → Reads (name (edition f) s) at (Got (found start end))
-identifier-in f s at start end e h q x r =
-    name-behind (edition f) s at start e (Got (found start end)) (subst (λ (g : Format). Reads (name (edition g) s) start (Got (found start end))) (sym q) (identifier-found s start end h x r))
+pub blank-same : (f : Format) → OfSource f → (s : List ℕ) (at r : ℕ) → SameLayout s at r → edition f .tokens s r ≡ edition f .tokens s at
+blank-same f q s at r e =
+    let own : (i : ℕ) → edition f .tokens s i ≡ next-token s i = λ i. ap (λ (T : List ℕ → ℕ → Lexed). T s i) q in
+    own r ∙ same-next s at r e ∙ sym (own at)
 
-pub blank-same : (f : Format) → f ≡ Format.Surface01 → (s : List ℕ) (at r : ℕ) → SameLayout s at r → edition f .tokens s r ≡ edition f .tokens s at
-unfolding edition-0-1
-blank-same f q s at r e = subst (λ (g : Format). edition g .tokens s r ≡ edition g .tokens s at) (sym q) (same-next s at r e)
-
--- A word that is told by its classes is the next token, and the atom that is read.
-module _ (f : Format) (s : List ℕ) (start end : ℕ) (q : f ≡ Format.Surface01) (x : NameAt s start end) where
+-- In whichever edition of the source format: a word that is told by its classes is the next token, and the atom that is read.
+module _ (f : Format) (s : List ℕ) (start end : ℕ) (q : OfSource f) (x : NameAt s start end) where
   pub word-token : Got (found start end) ≡ edition f .tokens s start
-  unfolding edition-0-1
-  word-token = subst (λ (g : Format). Got (found start end) ≡ edition g .tokens s start) (sym q) (sym (x .here))
+  word-token = sym (x .here) ∙ ap (λ (U : List ℕ → ℕ → Lexed). U s start) (sym q)
 
   pub word-read : Reads (atom (edition f .tokens s)) start (Got (found start end))
   word-read = λ n. atom-kind (edition f .tokens s) _ ∙ kind-got (edition f .tokens s) TokenKind.Atom start (Got (found start end)) word-token (found start end) refl refl n
+
+  -- A name, if it is not reserved there.
+  pub identifier-in : (at : ℕ) → edition f .tokens s start ≡ edition f .tokens s at → start < end → edition f .reserved (take (end - start) (drop start s)) ≡ false
+      → Reads (name (edition f) s) at (Got (found start end))
+  identifier-in at e h r =
+      name-behind (edition f) s at start e (Got (found start end)) (name-tested (edition f) s start (Got (found start end)) word-read (found start end) refl NameTest.Name (rw (r, is-identifier s start end h x)))

@@ -4,7 +4,7 @@ mod Arities
 pub mod Beginnings
 pub mod Heads
 mod Tokens
-mod Formats
+pub mod Formats
 mod CoreForms
 mod Indices
 mod Shapes

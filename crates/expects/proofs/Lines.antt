@@ -1,23 +1,22 @@
 -- What the lines of the head give, by what their parts give.
 use Prim.Native.Nat.{ℕ}
 use mathlib.Core.Path.{_≡_, refl, sym, _∙_, ap}
-use mathlib.Core.Bool.{true, false}
+use mathlib.Core.Bool.{Bool, true, false}
 use mathlib.Core.List.{List}
-use mathlib.Core.Option.{none, some}
 use Rattle.token.specs.Token.{next-token}
 use Rattle.token.specs.declared.Token.{Token}
 use Rattle.token.specs.declared.Refusal.{Refusal}
 use Rattle.token.specs.declared.Lexed.{Lexed}
 use Rattle.token.specs.declared.Lexed.the-variants.{Got, Refused}
 use Rattle.words.specs.Words.{ascii}
-use Rattle.surface.specs.Reader.{Position, Result, done, refused, Reader, after, _>>=_, pure, nowhere}
+use Rattle.surface.specs.Reader.{Position, Result, done, refused, Reader, after, _>>=_, nowhere}
 use Rattle.surface.specs.Reading.{opening, closing, word, natural, name, edition-of, supported, surface-line, module-line, head}
-use Rattle.surface.specs.Text.{text}
+use Rattle.expects.specs.declared.EditionRead.{EditionRead}
 use Rattle.expects.specs.declared.HeadRead.{HeadRead}
 use Rattle.expects.specs.declared.Format.{Format}
 use Rattle.expects.specs.Formats.{edition}
 use Rattle.expects.specs.Expects.{position-at, Reads, Heads}
-use Rattle.expects.specs.Lines.{tag, version-0-1, named, ClosesVersion, SurfaceLine, ModuleLine}
+use Rattle.expects.specs.Lines.{tag, is-version, named, ClosesVersion, SurfaceLine, ModuleLine}
 
 pub after-after : {A B C : Type 0} (x : Result A) (f : A → Reader B) (g : B → Reader C) → after (after x f) g ≡ after x (λ a q. after (f a q) g)
 after-after (done a q) f g = refl
@@ -37,44 +36,43 @@ module _ (next : ℕ → Lexed) (s w : List ℕ) (at : ℕ) (x : Lexed) (h : Rea
   unfolding tag
   tag-got o e y g = λ n. rw (h n, e) (g n)
 
-edition-is : (s : List ℕ) (major minor : Token) → version-0-1 s major minor ≡ true → edition-of (text s major) (text s minor) ≡ some (edition Format.Surface01)
-unfolding edition-of
-edition-is s major minor v = rw (v, edition-of)
-
-edition-none : (s : List ℕ) (major minor : Token) → version-0-1 s major minor ≡ false → edition-of (text s major) (text s minor) ≡ none
-unfolding edition-of
-edition-none s major minor v = rw (v, edition-of)
-
 -- The closing parenthesis of the surface line, and the version.
 module _ (s : List ℕ) (major minor : Token) (x : Lexed) (h : Reads (closing (next-token s)) (minor .end) x) where
-  pub version-refused : (r : Refusal) → x ≡ Refused r → ClosesVersion s major minor (Refused r)
+  pub version-refused : (r : Refusal) → x ≡ Refused r → ClosesVersion s major minor (EditionRead.Refused r)
   version-refused r e = λ n. rw (h n, e)
 
   module _ (c : Token) (e : x ≡ Got c) where
-    pub version-got : version-0-1 s major minor ≡ true → ClosesVersion s major minor (Got c)
-    unfolding supported
-    version-got v = λ n. rw (h n, e, edition-is s major minor v)
+    abbrev Is : List ℕ → Bool → Type 0
+    Is w b = is-version s major minor w ≡ b
 
-    pub version-not : version-0-1 s major minor ≡ false → ClosesVersion s major minor (Refused (nowhere 2))
-    unfolding supported
-    version-not v = λ n. rw (h n, e, edition-none s major minor v)
+    pub version-first : Is (ascii "1") true → ClosesVersion s major minor (EditionRead.Known Format.Surface01 (c .end))
+    unfolding supported edition-of
+    version-first v = λ n. rw (h n, e, v)
+
+    pub version-second : Is (ascii "1") false → Is (ascii "2") true → ClosesVersion s major minor (EditionRead.Known Format.Surface02 (c .end))
+    unfolding supported edition-of
+    version-second v w = λ n. rw (h n, e, v, w)
+
+    pub version-other : Is (ascii "1") false → Is (ascii "2") false → (r : Refusal) → r ≡ nowhere 2 → ClosesVersion s major minor (EditionRead.Refused r)
+    unfolding supported edition-of
+    version-other v w r g = λ n. rw (h n, e, v, w, g)
 
 module _ (s : List ℕ) (x : Lexed) (h : Reads (tag (next-token s) s (ascii "surface")) 0 x) where
-  pub surface-refused : (r : Refusal) → x ≡ Refused r → SurfaceLine s (Refused r)
+  pub surface-refused : (r : Refusal) → x ≡ Refused r → SurfaceLine s (EditionRead.Refused r)
   unfolding surface-line
   surface-refused r e = λ n. tag-first (next-token s) s (ascii "surface") _ (position-at 0 n) ∙ rw (h n, e)
 
   module _ (w : Token) (e : x ≡ Got w) (y : Lexed) (g : Reads (natural (next-token s) s) (w .end) y) where
-    pub major-refused : (r : Refusal) → y ≡ Refused r → SurfaceLine s (Refused r)
+    pub major-refused : (r : Refusal) → y ≡ Refused r → SurfaceLine s (EditionRead.Refused r)
     unfolding surface-line
     major-refused r i = λ n. tag-first (next-token s) s (ascii "surface") _ (position-at 0 n) ∙ rw (h n, e, g n, i)
 
     module _ (major : Token) (i : y ≡ Got major) (z : Lexed) (f : Reads (natural (next-token s) s) (major .end) z) where
-      pub minor-refused : (r : Refusal) → z ≡ Refused r → SurfaceLine s (Refused r)
+      pub minor-refused : (r : Refusal) → z ≡ Refused r → SurfaceLine s (EditionRead.Refused r)
       unfolding surface-line
       minor-refused r j = λ n. tag-first (next-token s) s (ascii "surface") _ (position-at 0 n) ∙ rw (h n, e, g n, i, f n, j)
 
-      pub surface-got : (minor : Token) → z ≡ Got minor → (r : Lexed) → ClosesVersion s major minor r → SurfaceLine s r
+      pub surface-got : (minor : Token) → z ≡ Got minor → (r : EditionRead) → ClosesVersion s major minor r → SurfaceLine s r
       unfolding surface-line
       surface-got minor j r v = λ n. tag-first (next-token s) s (ascii "surface") _ (position-at 0 n) ∙ rw (h n, e, g n, i, f n, j) (v n)
 
@@ -97,11 +95,11 @@ module _ (s : List ℕ) (f : Format) (at : ℕ) (x : Lexed) (h : Reads (tag (nex
       unfolding module-line
       module-got c j = λ n. ap (named f) (tag-first (next-token s) s (ascii "module") _ (position-at at n)) ∙ rw (h n, e, g n, i, k n, j)
 
-module _ (s : List ℕ) (x : Lexed) (h : SurfaceLine s x) where
-  pub head-refused : (r : Refusal) → x ≡ Refused r → Heads s (HeadRead.Refused r)
+module _ (s : List ℕ) (x : EditionRead) (h : SurfaceLine s x) where
+  pub head-refused : (r : Refusal) → x ≡ EditionRead.Refused r → Heads s (HeadRead.Refused r)
   unfolding head
   head-refused r e = λ n. rw (h n, e)
 
-  pub head-got : (c : Token) → x ≡ Got c → (r : HeadRead) → ModuleLine s Format.Surface01 (c .end) r → Heads s r
+  pub head-got : (f : Format) (next : ℕ) → x ≡ EditionRead.Known f next → (r : HeadRead) → ModuleLine s f next r → Heads s r
   unfolding head
-  head-got c e r m = λ n. rw (h n, e) (m n)
+  head-got f next e r m = λ n. rw (h n, e) (m n)

@@ -36,9 +36,13 @@ abbrev pub name-read : ℕ → NameRead → Result Token
 name-read n (NameRead.Got x next) = done x (position-at next n)
 name-read n (NameRead.Refused r) = refused r
 
+-- r is what a reader of a name gives at an offset, and where reading goes on.
+abbrev pub ReadsName : Reader Token → ℕ → NameRead → Type 0
+ReadsName reader at r = (n : ℕ) → reader (position-at at n) ≡ name-read n r
+
 -- r is the name of a declaration at an offset.
 abbrev pub Names : Format → List ℕ → ℕ → NameRead → Type 0
-Names f s at r = (n : ℕ) → declared-name f s (position-at at n) ≡ name-read n r
+Names f s at r = ReadsName (declared-name f s) at r
 
 -- The format's edition, the module's name, and where reading goes on behind the head; or the refusal.
 abbrev pub head-read : ℕ → HeadRead → Result Head

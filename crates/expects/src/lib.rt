@@ -1,21 +1,21 @@
 // What must stand next: a parenthesis, a word, a numeral, a name, a term's beginning, the head.
 // The port of `Parser::next_atom`, `expect_*`, `parse_natural`, `parse_identifier` and of what `parse_term` and `parse_module` begin with.
 ghost use mathlib.Core.Path.{_≡_};
-ghost use Prim.Native.Nat.{ℕ, _≤_, _<_};
+ghost use Prim.Native.Nat.{_≤_, _<_};
 ghost use lib.ListN.{length};
 ghost use Rattle.token.specs.Classes.{ClassTable, NameAt};
-ghost use Rattle.terms.specs.Forms.{forms, form-of-word};
+ghost use Rattle.terms.specs.Forms.{forms, forms-0-2, form-of-word};
 ghost use Rattle.terms.specs.TextForms.{text-forms};
 ghost use Rattle.core_text.specs.TextReading.{end-token};
 ghost use Rattle.surface.specs.Reader.{nowhere, at-offset};
 ghost use Rattle.surface.specs.Reading.{opening, closing, atom, word, natural, name, declaration-kind};
-ghost use Rattle.expects.specs.Expects.{Reads, Begins, Names, Heads};
+ghost use Rattle.expects.specs.Expects.{Reads, Begins, ReadsName, Names, Heads};
 ghost use Rattle.expects.specs.declared.Format.{Format};
-ghost use Rattle.expects.specs.Formats.{edition, ends, tested-name};
+ghost use Rattle.expects.specs.Formats.{edition, OfSource, declared-name, ends, tested-name};
 ghost use Rattle.expects.specs.FormOfWord.{form-numbers, form-at, unnamed-numbers};
 ghost use Rattle.expects.specs.Tokens.{kind-number, TokenInside, LexedInside, OfKind};
 ghost use Rattle.expects.specs.Terms.{LabelWith, LabelAlone, BeginsOn, BeginsWith, ClosesLeaf};
-ghost use Rattle.expects.specs.Lines.{tag, version-0-1, ClosesVersion, SurfaceLine, ModuleLine};
+ghost use Rattle.expects.specs.Lines.{tag, is-version, ClosesVersion, SurfaceLine, ModuleLine};
 use terms::Label;
 use token::Lexed;
 use token::Place;
@@ -27,6 +27,7 @@ use words::NameTest;
 // The formats that are read: what their tokens are, which words are reserved and which have a form.
 pub enum Format {
     Surface01,
+    Surface02,
     Core01,
 }
 
@@ -34,6 +35,12 @@ pub enum Format {
 pub enum Begun {
     Leaf(Label, usize),
     Frame(Label, usize),
+    Refused(Refusal),
+}
+
+// The format of a source by its version, and where reading goes on.
+pub enum EditionRead {
+    Known(Format, usize),
     Refused(Refusal),
 }
 
@@ -94,8 +101,8 @@ fn lex(s: &[u8], classes: &[u8], at: usize, format: Format) -> Lexed
     ensures { λ r. ⌜ r ≡ edition format .tokens (now (s .entry)) at ⌝ }
 {
     match format {
-        Format::Surface01 => token::next_token_by(s, classes, at),
         Format::Core01 => core_token::next_core_token(s, at),
+        _ => token::next_token_by(s, classes, at),
     }
 }
 
@@ -264,20 +271,33 @@ pub fn parse_natural(s: &[u8], classes: &[u8], at: usize, format: Format) -> Lex
     }
 }
 
+// Whether a format reserves a word. Core text reserves none, and reads none as an identifier.
+fn is_reserved(w: &[u8], format: Format) -> bool
+    ensures { λ r. ⌜ r ≡ edition format .reserved (now (w .entry)) ⌝ }
+{
+    match format {
+        Format::Surface01 => words::is_reserved(w),
+        Format::Surface02 => {
+            if words::is_reserved(w) {
+                return true;
+            }
+            words::same_bytes(w, b"arrow")
+        }
+        Format::Core01 => false,
+    }
+}
+
 // Whether an atom is a name, with the reserved words of a format.
 fn name_test(w: &[u8], format: Format) -> NameTest
     ensures { λ r. ⌜ r ≡ tested-name (edition format) (now (w .entry)) ⌝ }
 {
-    match format {
-        Format::Surface01 => words::name_test(w),
-        // No word is reserved, and nothing is read as an identifier.
-        Format::Core01 => {
-            if words::is_identifier(w) {
-                return NameTest::Name;
-            }
-            NameTest::NotIdentifier
-        }
+    if is_reserved(w, format) {
+        return NameTest::Reserved;
     }
+    if words::is_identifier(w) {
+        return NameTest::Name;
+    }
+    NameTest::NotIdentifier
 }
 
 // An atom that is tested for a name behind its end.
@@ -307,19 +327,19 @@ fn blank_end(s: &[u8], classes: &[u8], at: usize, format: Format) -> usize
     ensures { λ r. ⌜ edition format .tokens (now (s .entry)) r ≡ edition format .tokens (now (s .entry)) at ⌝ }
 {
     match format {
-        Format::Surface01 => token::skip_blank(s, classes, at),
         Format::Core01 => at,
+        _ => token::skip_blank(s, classes, at),
     }
 }
 
 // The end of an identifier of a source that starts at `start`; else `start`, as in core text.
 fn name_end(s: &[u8], classes: &[u8], start: usize, format: Format) -> usize
     requires { ⌜ ClassTable (now classes) ⌝ }
-    ensures { λ r. ⌜ (start < r → (format ≡ Format.Surface01) × NameAt (now (s .entry)) start r) ⌝ }
+    ensures { λ r. ⌜ (start < r → OfSource format × NameAt (now (s .entry)) start r) ⌝ }
 {
     match format {
-        Format::Surface01 => token::name_end(s, classes, start),
         Format::Core01 => start,
+        _ => token::name_end(s, classes, start),
     }
 }
 
@@ -331,7 +351,7 @@ pub fn parse_identifier(s: &[u8], classes: &[u8], at: usize, format: Format) -> 
     let start = blank_end(s, classes, at, format);
     let end = name_end(s, classes, start, format);
     if start < end {
-        if !words::is_reserved(&s[start..end]) {
+        if !is_reserved(&s[start..end], format) {
             return Lexed::Got(Token {
                 kind: TokenKind::Atom,
                 start: start,
@@ -343,11 +363,11 @@ pub fn parse_identifier(s: &[u8], classes: &[u8], at: usize, format: Format) -> 
 }
 
 // The name of a declaration of a source: an identifier.
-fn identifier_name(s: &[u8], classes: &[u8], at: usize) -> NameRead
+fn identifier_name(s: &[u8], classes: &[u8], at: usize, format: Format) -> NameRead
     requires { ⌜ ClassTable (now classes) ⌝ }
-    ensures { λ r. ⌜ Names Format.Surface01 (now (s .entry)) at r ⌝ }
+    ensures { λ r. ⌜ ReadsName (name (edition format) (now (s .entry))) at r ⌝ }
 {
-    let l = parse_identifier(s, classes, at, Format::Surface01);
+    let l = parse_identifier(s, classes, at, format);
     match l {
         Lexed::Refused(r) => NameRead::Refused(r),
         Lexed::Got(t) => NameRead::Got(t, t.end),
@@ -356,7 +376,7 @@ fn identifier_name(s: &[u8], classes: &[u8], at: usize) -> NameRead
 
 // The name of a declaration of a core text: a string, of which the bytes between the quotes are kept.
 fn string_name(s: &[u8], at: usize) -> NameRead
-    ensures { λ r. ⌜ Names Format.Core01 (now (s .entry)) at r ⌝ }
+    ensures { λ r. ⌜ ReadsName (declared-name Format.Core01 (now (s .entry))) at r ⌝ }
 {
     let l = core_token::next_core_token(s, at);
     match l {
@@ -386,8 +406,8 @@ pub fn parse_name(s: &[u8], classes: &[u8], at: usize, format: Format) -> NameRe
     ensures { λ r. ⌜ Names format (now (s .entry)) at r ⌝ }
 {
     match format {
-        Format::Surface01 => identifier_name(s, classes, at),
         Format::Core01 => string_name(s, at),
+        _ => identifier_name(s, classes, at, format),
     }
 }
 
@@ -396,8 +416,8 @@ pub fn is_ending(kind: TokenKind, format: Format) -> bool
     ensures { λ r. ⌜ r ≡ ends format kind ⌝ }
 {
     match format {
-        Format::Surface01 => kind_number(kind) == 3,
         Format::Core01 => kind_number(kind) == 1,
+        _ => kind_number(kind) == 3,
     }
 }
 
@@ -487,13 +507,25 @@ fn core_form(w: &[u8], form: FormOfWord) -> FormOfWord
     unnamed(form)
 }
 
-// One search of the words for both formats.
+// The form of a word of surface 0 2, given its form in surface 0 1.
+fn arrow_form(w: &[u8], form: FormOfWord) -> FormOfWord
+    requires { ⌜ form ≡ form-numbers (form-of-word (now w) forms) ⌝ }
+    ensures { λ r. ⌜ r ≡ form-numbers (form-of-word (now (w .entry)) forms-0-2) ⌝ }
+{
+    if words::same_bytes(w, b"arrow") {
+        return FormOfWord { kind: 25, shape: 5 };
+    }
+    form
+}
+
+// One search of the words for all formats.
 pub fn form_of_word(w: &[u8], format: Format) -> FormOfWord
     ensures { λ r. ⌜ r ≡ form-numbers (form-of-word (now (w .entry)) (edition format .forms)) ⌝ }
 {
     let form = surface_form(w);
     match format {
         Format::Surface01 => form,
+        Format::Surface02 => arrow_form(w, form),
         Format::Core01 => core_form(w, form),
     }
 }
@@ -693,11 +725,11 @@ pub fn expect_tag(s: &[u8], classes: &[u8], at: usize, expected: &[u8], format: 
     }
 }
 
-// Whether a version is 0 1, by its bytes.
-pub fn is_supported(s: &[u8], major: Token, minor: Token) -> bool
+// Whether a version is 0 and the numeral w, by its bytes.
+pub fn is_version(s: &[u8], major: Token, minor: Token, w: &[u8]) -> bool
     requires { ⌜ TokenInside (length (now s)) major ⌝ }
     requires { ⌜ TokenInside (length (now s)) minor ⌝ }
-    ensures { λ r. ⌜ r ≡ version-0-1 (now (s .entry)) major minor ⌝ }
+    ensures { λ r. ⌜ r ≡ is-version (now (s .entry)) major minor (now (w .entry)) ⌝ }
 {
     let a = major.start;
     let e = major.end;
@@ -706,11 +738,11 @@ pub fn is_supported(s: &[u8], major: Token, minor: Token) -> bool
     }
     let i = minor.start;
     let j = minor.end;
-    words::same_bytes(&s[i..j], b"1")
+    words::same_bytes(&s[i..j], w)
 }
 
 // The rest of the surface line behind its numerals: the closing parenthesis, and only then the version.
-fn close_version(s: &[u8], classes: &[u8], major: Token, minor: Token) -> Lexed
+fn close_version(s: &[u8], classes: &[u8], major: Token, minor: Token) -> EditionRead
     requires { ⌜ TokenInside (length (now s)) major ⌝ }
     requires { ⌜ TokenInside (length (now s)) minor ⌝ }
     requires { ⌜ ClassTable (now classes) ⌝ }
@@ -718,35 +750,35 @@ fn close_version(s: &[u8], classes: &[u8], major: Token, minor: Token) -> Lexed
 {
     let l = expect_rparen(s, classes, minor.end, Format::Surface01);
     match l {
-        Lexed::Refused(unclosed) => Lexed::Refused(unclosed),
+        Lexed::Refused(unclosed) => EditionRead::Refused(unclosed),
         Lexed::Got(close) => {
-            if is_supported(s, major, minor) {
-                return Lexed::Got(close);
+            if is_version(s, major, minor, b"1") {
+                return EditionRead::Known(Format::Surface01, close.end);
             }
-            Lexed::Refused(Refusal {
-                class: 2,
-                place: Place::Nowhere,
-            })
+            if is_version(s, major, minor, b"2") {
+                return EditionRead::Known(Format::Surface02, close.end);
+            }
+            EditionRead::Refused(refused_nowhere(2))
         }
     }
 }
 
-// `(surface 0 1)`: its closing parenthesis.
-fn surface_line(s: &[u8], classes: &[u8]) -> Lexed
+// `(surface 0 1)` or `(surface 0 2)`
+fn surface_line(s: &[u8], classes: &[u8]) -> EditionRead
     requires { ⌜ ClassTable (now classes) ⌝ }
     ensures { λ r. ⌜ SurfaceLine (now (s .entry)) r ⌝ }
 {
     let l = expect_tag(s, classes, 0, b"surface", Format::Surface01);
     match l {
-        Lexed::Refused(r) => Lexed::Refused(r),
+        Lexed::Refused(r) => EditionRead::Refused(r),
         Lexed::Got(w) => {
             let m = parse_natural(s, classes, w.end, Format::Surface01);
             match m {
-                Lexed::Refused(r) => Lexed::Refused(r),
+                Lexed::Refused(r) => EditionRead::Refused(r),
                 Lexed::Got(major) => {
                     let n = parse_natural(s, classes, major.end, Format::Surface01);
                     match n {
-                        Lexed::Refused(r) => Lexed::Refused(r),
+                        Lexed::Refused(r) => EditionRead::Refused(r),
                         Lexed::Got(minor) => close_version(s, classes, major, minor),
                     }
                 }
@@ -785,7 +817,7 @@ pub fn read_head(s: &[u8], classes: &[u8]) -> HeadRead
 {
     let l = surface_line(s, classes);
     match l {
-        Lexed::Refused(r) => HeadRead::Refused(r),
-        Lexed::Got(close) => module_line(s, classes, close.end, Format::Surface01),
+        EditionRead::Refused(r) => HeadRead::Refused(r),
+        EditionRead::Known(format, next) => module_line(s, classes, next, format),
     }
 }

@@ -1,12 +1,13 @@
 -- What is asked of the readers that the machine reads with, and what a whole term is then.
-use mathlib.Core.Path.{_≡_, sym, subst}
+use mathlib.Core.Path.{_≡_, sym, _∙_, subst}
 use mathlib.Core.Bool.{Bool}
 use mathlib.Core.List.{List}
 use Prim.Native.Nat.{ℕ}
 use Rattle.token.specs.declared.Token.{Token}
 use Rattle.terms.specs.Label.{Label}
-use Rattle.terms.specs.Forms.{edition-0-1, holds-span, holds-span-in}
+use Rattle.terms.specs.Forms.{edition-0-1, edition-0-2, holds-span, holds-span-in}
 use Rattle.terms.specs.TextForms.{text-forms}
+use Rattle.terms.proofs.Arrow.{holds-same}
 use Rattle.terms.specs.Tree.{Tree}
 use Rattle.surface.specs.Reader.{Position, Result, done}
 use Rattle.surface.specs.Reading.{Beginning, frame, term}
@@ -14,6 +15,7 @@ use Rattle.core_text.specs.TextReading.{text-edition}
 use Rattle.expects.specs.declared.Format.{Format}
 use Rattle.expects.specs.Formats.{edition}
 use Rattle.expects.specs.Expects.{position-at}
+use Rattle.expects.proofs.Formats.{of-either}
 use Rattle.expects.proofs.Ahead.{source, Ahead, behind, closing-got}
 use Rattle.expects.proofs.Beginnings.{beginning-got}
 use Rattle.parser.specs.TermRows.{as-rows}
@@ -37,9 +39,9 @@ setting-sound f s limit frames = record {
 
 -- Whether a kind's row holds a span, in a source and in a core text.
 module _ (f : Format) (kind : ℕ) (r : Bool) where
-  pub surface-holds : f ≡ Format.Surface01 → r ≡ holds-span kind → r ≡ holds-span-in (edition f .forms) kind
-  unfolding edition-0-1
-  surface-holds q e = subst (λ (g : Format). r ≡ holds-span-in (edition g .forms) kind) (sym q) e
+  pub source-holds : ¬ (f ≡ Format.Core01) → r ≡ holds-span kind → r ≡ holds-span-in (edition f .forms) kind
+  unfolding edition-0-1 edition-0-2
+  source-holds q e = of-either (λ g. r ≡ holds-span-in (edition g .forms) kind) (e ∙ sym (holds-same kind)) e f q
 
   pub text-holds : f ≡ Format.Core01 → r ≡ holds-span-in text-forms kind → r ≡ holds-span-in (edition f .forms) kind
   unfolding text-edition

@@ -66,8 +66,8 @@ fn holds_span(kind: u32, format: Format) -> bool
     ensures { λ r. ⌜ r ≡ holds-span-in (edition format .forms) kind ⌝ }
 {
     match format {
-        Format::Surface01 => rows::holds_span(kind),
         Format::Core01 => rows::holds_numeral(kind),
+        _ => rows::holds_span(kind),
     }
 }
 

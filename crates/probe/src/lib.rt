@@ -110,7 +110,7 @@ pub extern "C" fn sulyterom_word_index(w: &[u8]) -> u8
     words::word_index(w)
 }
 
-// 0 for a name, else the class that refuses it.
+// 0 for a name of edition 0 1, else the class that refuses it.
 #[no_mangle]
 pub extern "C" fn sulyterom_name_test(w: &[u8]) -> u8
     ensures { λ r. ⌜ r ≡ test-number (name-test (now (w .entry))) ⌝ }

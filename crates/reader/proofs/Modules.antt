@@ -13,7 +13,8 @@ use Rattle.token.specs.declared.Lexed.{Lexed}
 use Rattle.token.specs.declared.Lexed.the-variants.{Got, Refused}
 use Rattle.core_token.specs.CoreToken.{core-class, core-atom-from, core-token-from, next-core-token}
 use Rattle.core_text.specs.TextReading.{text-edition}
-use Rattle.terms.specs.Forms.{edition-0-1, holds-span, holds-span-in}
+use Rattle.terms.specs.Forms.{edition-0-1, edition-0-2, holds-span, holds-span-in}
+use Rattle.terms.proofs.Arrow.{holds-same}
 use Rattle.terms.specs.Label.{Declaration}
 use Rattle.terms.specs.Rows.{row-holding, rows-by, joined}
 use Rattle.surface.specs.Reader.{start, Result, done, refused, Reader}
@@ -53,8 +54,9 @@ other-tokens e =
     omega arith
 
 of-source : (f : Format) → edition f .tokens ≡ next-token → OfSource f
-unfolding edition-0-1 text-edition
-of-source Format.Surface01 e = record { names = λ s. refl; ending = refl; spans = refl }
+unfolding edition-0-1 edition-0-2 text-edition
+of-source Format.Surface01 e = record { names = λ s. refl; ending = refl; spans = λ i k. holds-same k i }
+of-source Format.Surface02 e = record { names = λ s. refl; ending = refl; spans = refl }
 of-source Format.Core01 e = absurd (other-tokens e)
 
 module _ (limits : Limits) (s table list : List ℕ) (x : HeadRead) (h : Heads s x) where

@@ -34,9 +34,12 @@ enum-known-c c = search needs
 enum-known-c-2 : tie.Need-enum-known-c-2
 enum-known-c-2 c = search needs
 
-is-supported-requires : tie.Need-is-supported-requires
-is-supported-requires c κs =
-    let z = c .before in
+slice-aggregate-is-version : tie.Need-slice-aggregate-is-version
+slice-aggregate-is-version c = search needs
+
+is-version-requires : tie.Need-is-version-requires
+is-version-requires c κs =
+    let z = c .before .before in
     let j = z .before .before .before .before in
     let i = j .before .before .before .before in
     let a = i .before .before .parse-natural in
@@ -70,11 +73,11 @@ returns-3 c =
 returns-4 : tie.Need-returns-4
 unfolding text-edition
 returns-4 c =
-    let z = c .before .before in
+    let z = c .before .before .before in
     let j = z .before .before .before .before in
     let i = j .before .before .before .before in
     version-got _ _ _ (i .before .before .parse-natural .ensures) _ (i .m2 .given .1) _ (j .before .before .parse-natural2 .ensures) _ (j .n2 .given .1) _
-    (z .before .before .expect-rparen .ensures) _ (z .c2 .given .1) _ (c .is-supported .ensures)
+    (z .before .before .expect-rparen .ensures) _ (z .c2 .given .1) _ (c .is-version .ensures)
 
 pub read-version-spec : {M : Type 1} → statement M
 read-version-spec =
@@ -89,7 +92,8 @@ read-version-spec =
     expect-rparen-requires
     enum-known-c
     enum-known-c-2
-    is-supported-requires
+    slice-aggregate-is-version
+    is-version-requires
     returns
     returns-2
     returns-3

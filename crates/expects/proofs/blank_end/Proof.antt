@@ -1,4 +1,7 @@
 -- `expects::blank_end` meets its contract.
+use mathlib.Core.List.{[], _∷_}
+use types.Run.{miss}
+use Rattle.expects.proofs.Formats.{source-tokens}
 use Rattle.expects.proofs.Identifiers.{blank-same}
 use borrow.Author.Needs.{needs}
 use Rattle.expects.proofs.blank_end.Statement.{statement}
@@ -10,14 +13,11 @@ enum-told c = search needs
 skip-blank-requires : tie.Need-skip-blank-requires
 skip-blank-requires c κs = search needs
 
-enum-told-2 : tie.Need-enum-told-2
-enum-told-2 c = search needs
-
 returns : tie.Need-returns
-returns c = blank-same _ (c .before .enum-told .given .1) _ _ _ (c .skip-blank .ensures .0)
+returns c = search needs
 
 returns-2 : tie.Need-returns-2
-returns-2 c = search needs
+returns-2 c = blank-same (c .before .before .before .before .args .format) (source-tokens (c .before .before .before .before .args .format) (λ q. miss (0 ∷ 1 ∷ []) 2 tt (rw q at (c .before .match .keys2)))) _ _ _ (c .skip-blank .ensures .0)
 
 pub blank-end-spec : {M : Type 1} → statement M
-blank-end-spec = tie.close (tie.spec enum-told skip-blank-requires enum-told-2 returns returns-2)
+blank-end-spec = tie.close (tie.spec enum-told skip-blank-requires returns returns-2)

@@ -31,7 +31,7 @@ returns c =
     let g = c .before .before .before in
     let b = g .before .before in
     let x = g .before .name-end .ensures (g .if1 .taken) in
-    identifier-in (b .before .before .before .args .format) _ _ _ _ (b .blank-end .ensures) (g .if1 .taken) (x .0) (x .1) (sym (c .before .is-reserved .ensures) ∙ not-true _ (c .if2 .taken))
+    identifier-in (b .before .before .before .args .format) _ _ _ (x .0) (x .1) _ (b .blank-end .ensures) (g .if1 .taken) (sym (c .before .is-reserved .ensures) ∙ not-true _ (c .if2 .taken))
 
 tested-identifier-requires : tie.Need-tested-identifier-requires
 tested-identifier-requires c κs = search needs

@@ -24,7 +24,7 @@ returns c =
 returns-2 : tie.Need-returns-2
 returns-2 c =
     let k = c .before .before in
-    head-got _ _ (k .before .before .surface-line .ensures) _ (k .l2 .given .1) (c .module-line .result) (c .module-line .ensures)
+    head-got _ _ (k .before .before .surface-line .ensures) _ _ (k .l2 .given .1) (c .module-line .result) (c .module-line .ensures)
 
 pub read-head-spec : {M : Type 1} → statement M
 read-head-spec =

@@ -1,9 +1,9 @@
--- `expects::is_supported` meets its contract.
+-- `expects::is_version` meets its contract.
 use mathlib.Core.Path.{sym, _∙_}
 use borrow.Author.Tests.{not-true, not-false}
 use borrow.Author.Needs.{needs}
-use Rattle.expects.proofs.is_supported.Statement.{statement}
-use Rattle.expects.proofs.is_supported.Tie as tie
+use Rattle.expects.proofs.is_version.Statement.{statement}
+use Rattle.expects.proofs.is_version.Tie as tie
 
 sub-same-bytes : tie.Need-sub-same-bytes
 sub-same-bytes c = search needs
@@ -32,17 +32,14 @@ part-same-bytes-start-2 c = search needs
 part-same-bytes-end-2 : tie.Need-part-same-bytes-end-2
 part-same-bytes-end-2 c = search needs
 
-slice-aggregate-same-bytes-2 : tie.Need-slice-aggregate-same-bytes-2
-slice-aggregate-same-bytes-2 c = search needs
-
 same-bytes-requires-2 : tie.Need-same-bytes-requires-2
 same-bytes-requires-2 c κs = search needs
 
 returns-2 : tie.Need-returns-2
-returns-2 c = rw (sym (c .before .before .before .before .same-bytes .ensures) ∙ not-false _ (c .before .before .before .if1 .left)) (c .same-bytes2 .ensures)
+returns-2 c = let i = c .before .before in rw (sym (i .before .same-bytes .ensures) ∙ not-false _ (i .if1 .left)) (c .same-bytes2 .ensures)
 
-pub is-supported-spec : {M : Type 1} → statement M
-is-supported-spec =
+pub is-version-spec : {M : Type 1} → statement M
+is-version-spec =
     tie.close
     (tie.spec
     sub-same-bytes
@@ -54,6 +51,5 @@ is-supported-spec =
     sub-same-bytes-2
     part-same-bytes-start-2
     part-same-bytes-end-2
-    slice-aggregate-same-bytes-2
     same-bytes-requires-2
     returns-2)
