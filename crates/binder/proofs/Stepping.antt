@@ -6,11 +6,11 @@ use mathlib.Core.List.{List, [], _∷_}
 use native.Mathlib.Omega.{arith}
 use lib.ListN.{getD}
 use Rattle.terms.specs.Label.{part}
-use Rattle.terms.specs.Resolution.{find, covers}
+use Rattle.terms.specs.Resolution.{find, covers, bound-name}
 use Rattle.terms.specs.Lookup.{Local, local-of, lookup, Referent, refers}
 use Rattle.scope.specs.Scope.{in-scope, declared-names}
 use Rattle.stacks.specs.Stacks.{LocalPushed}
-use Rattle.elaborate.specs.RowTerm.{row-word}
+use Rattle.elaborate.specs.RowTerm.{row-word, bound-at}
 use Rattle.binder.specs.declared.Way.{Way}
 use Rattle.binder.specs.inner.Walk.{declaration-with, root-with, behind-span, child-at, argument-with, entered, walk, refers-at, WentDown}
 
@@ -22,18 +22,17 @@ module _ (t : List ℕ) (k : ℕ) (way : Way) (kind i b row : ℕ) (e : kind ≡
   row-is : row ≡ child-at t k id (argument-with t k id)
   row-is = h ∙ (λ x. getD t (id * 8 + g x + i) 0) ∙ (λ x. getD t (id * 8 + behind-span (e x) + f x) 0)
 
-  -- The names in scope, by whether the row's binder covers the argument.
-  scope-is : (c : Bool) → covers kind i ≡ c → (s : List ℕ) (l : List Local) → cond c (local-of (part s (row-word t id 1) (row-word t id 2)) id ∷ l) l ≡ entered t k s id l
+  -- The local binders, by whether the row's binder covers the argument.
+  scope-is : (c : Bool) → covers kind i ≡ c → (s : List ℕ) (l : List Local) → cond c (local-of (bound-at s t id) id ∷ l) l ≡ entered t k s id l
   scope-is c q s l =
-      (λ x. cond (sym q x) (local-of (part s (row-word t id 1) (row-word t id 2)) id ∷ l) l)
-      ∙ (λ x. cond (covers (e x) (f x)) (local-of (part s (row-word t id 1) (row-word t id 2)) id ∷ l) l)
+      (λ x. cond (sym q x) (local-of (bound-at s t id) id ∷ l) l) ∙ (λ x. cond (covers (e x) (f x)) (local-of (bound-at s t id) id ∷ l) l)
 
   pub steps-in : covers kind i ≡ true → (work work₁ : List ℕ) (start n : ℕ) → start ≡ getD t (id * 8 + 1) 0 → n ≡ getD t (id * 8 + 2) 0
-      → LocalPushed work work₁ (way .locals) start n id → WentDown t k way work (record { row = row; locals = way .locals + 1 }) work₁
+      → LocalPushed work work₁ (way .locals) kind start n id → WentDown t k way work (record { row = row; locals = way .locals + 1 }) work₁
   steps-in q work work₁ start n x y p = record {
     row = row-is;
     few = omega arith;
-    locals = λ s. p .locals s ∙ (λ j. local-of (part s (x j) (y j)) id ∷ in-scope s work (way .locals)) ∙ scope-is true q s (in-scope s work (way .locals));
+    locals = λ s. p .locals s ∙ (λ j. local-of (bound-name (e j) (part s (x j) (y j))) id ∷ in-scope s work (way .locals)) ∙ scope-is true q s (in-scope s work (way .locals));
   }
 
   pub steps-on : covers kind i ≡ false → (work : List ℕ) → WentDown t k way work (record { row = row; locals = way .locals }) work

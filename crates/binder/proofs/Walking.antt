@@ -1,4 +1,4 @@
--- The way down to a row comes to the place that has it, and the names in scope there are those of the binders around the place.
+-- The way down to a row comes to the place that has it, and the local binders there are those around the place.
 use Prim.Native.Nat.{ℕ, zero, suc, _+_, _*_, _≤_, _<_}
 use mathlib.Core.Path.{_≡_, refl, sym, _∙_, ap, ap₂, subst}
 use mathlib.Core.List.{List, [], _∷_, _++_, append-assoc}
@@ -12,8 +12,8 @@ use lib.ListN.{length, getD}
 use lib.Seq.{getD-append-add}
 use Rattle.terms.specs.Forms.{arity-of, holds-span}
 use Rattle.terms.specs.Tree.{Forest, nil, node, Tree, tree, then, maybe, Place, pick, at, count, next, roots, relabel-tree}
-use Rattle.terms.specs.Label.{Label, Term, part, named}
-use Rattle.terms.specs.Resolution.{covers}
+use Rattle.terms.specs.Label.{Name, Label, Term, part, named}
+use Rattle.terms.specs.Resolution.{covers, bound-name}
 use Rattle.terms.specs.Rows.{span}
 use Rattle.terms.specs.RowAt.{tree-row, row-at}
 use Rattle.terms.specs.Lookup.{Local, local-of}
@@ -24,7 +24,7 @@ use Rattle.binding.proofs.Located.{own, located}
 use Rattle.rows.proofs.Arities.{arity-at-most-six}
 use Rattle.elaborate.specs.RowTerm.{row-word, label-at}
 use Rattle.elaborate.specs.Loadable.{Shaped, Nested}
-use Rattle.elaborate.proofs.Alike.{Alike, span-covers}
+use Rattle.elaborate.proofs.Alike.{Alike, same-name}
 use Rattle.elaborate.proofs.RowWords.{arity-behind-span, word, row-alike, row-kind}
 use Rattle.elaborate.proofs.TreeRows.{Holds}
 use Rattle.binder.proofs.First.{first-is}
@@ -140,14 +140,13 @@ module _ (s t : List ℕ) (rows k : ℕ) where
 
       enters : (l : List Local) → entered t k s id l ≡ own (named s (v .label)) id (c .number) ++ l
       enters l =
-          ap₂ (λ (x i : ℕ). cond (covers x i) (local-of (part s (row-word t id 1) (row-word t id 2)) id ∷ l) l) its-kind goes-into
+          ap₂ (λ (x i : ℕ). cond (covers x i) (local-of (bound-name x (part s (row-word t id 1) (row-word t id 2))) id ∷ l) l) its-kind goes-into
           ∙ go (covers kind (c .number)) refl
         where
           go : (b : Bool) → covers kind (c .number) ≡ b
-              → cond b (local-of (part s (row-word t id 1) (row-word t id 2)) id ∷ l) l ≡ cond b (local-of (part s (v .label .start) (v .label .length)) id ∷ []) [] ++ l
-          go true q =
-              let p = alike .span (span-covers kind (c .number) q) in
-              ap₂ (λ (x m : ℕ). local-of (part s x m) id ∷ l) (p .0) (p .1)
+              → cond b (local-of (bound-name kind (part s (row-word t id 1) (row-word t id 2))) id ∷ l) l
+              ≡ cond b (local-of (bound-name kind (part s (v .label .start) (v .label .length))) id ∷ []) [] ++ l
+          go true q = ap (λ (o : Option Name). local-of o id ∷ l) (same-name s (label-at t id) (v .label) alike (c .number) q)
           go false q = refl
 
   -- The place that is come to.

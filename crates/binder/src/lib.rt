@@ -30,7 +30,7 @@ const REF: u32 = 24;
 // "7 more than 512 frames open in one term": no row has more forms around it.
 const FORMS: usize = 512;
 
-// A row on the way down to another, and how many names are in scope there.
+// A row on the way down to another, and how many local binders there are.
 struct Way {
     row: u32,
     locals: usize,
@@ -93,7 +93,7 @@ fn argument_with(surface: &[u32], id: u32, k: usize) -> usize
     i
 }
 
-// One step down. Where the row's binder covers the argument that is stepped into, its name comes into scope.
+// One step down. Where the row's binder covers the argument that is stepped into, it comes into scope.
 fn down(surface: &[u32], work: &mut [u32], way: Way, k: usize) -> Way
     requires { ⌜ (way .locals < names-room) × WorkArea (now work) ⌝ }
     ensures { λ r. ⌜ WentDown (now (surface .entry)) k way (now (work .entry)) r (now (work .exit)) ⌝ }
@@ -107,7 +107,7 @@ fn down(surface: &[u32], work: &mut [u32], way: Way, k: usize) -> Way
     if rows::covers(kind, i) {
         let start = word_at(surface, at + 1);
         let length = word_at(surface, at + 2);
-        stacks::push_local(work, l, start, length, id);
+        stacks::push_local(work, l, kind, start, length, id);
         return Way {
             row: row,
             locals: l + 1,
@@ -119,7 +119,7 @@ fn down(surface: &[u32], work: &mut [u32], way: Way, k: usize) -> Way
     }
 }
 
-// The way from the row `root` down to row k: how many names are in scope there, which the work area holds.
+// The way from the row `root` down to row k: how many local binders there are, which the work area holds.
 fn walk(surface: &[u32], work: &mut [u32], root: u32, k: usize) -> usize
     requires { ⌜ WorkArea (now work) ⌝ }
     ensures { λ r. ⌜ (r ≤ names-room) × ((s : List ℕ) → in-scope s (now (work .exit)) r ≡ walk (now (surface .entry)) k s 512 root []) ⌝ }

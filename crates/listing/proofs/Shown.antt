@@ -6,11 +6,12 @@ use mathlib.Core.List.{List, [], _∷_, _++_, map}
 use native.Mathlib.Omega.{arith}
 use lib.Dec.{eqb}
 use lib.ListN.{length, getD}
-use Rattle.terms.specs.Forms.{universe}
+use Rattle.terms.specs.Forms.{universe, counts-as}
 use Rattle.terms.specs.Tree.{Forest, nil, node, cells, next, roots}
 use Rattle.terms.specs.Label.{Name, Label, Declaration, trees, declared-name}
-use Rattle.terms.specs.Resolution.{Core, kept, var, global, unknown, core-of, locals-in, resolve, resolve-declaration, resolve-module}
+use Rattle.terms.specs.Resolution.{Locals, Core, kept, var, global, unknown, core-of, locals-in, resolve, resolve-declaration, resolve-module}
 use Rattle.terms.specs.Rows.{pad, row, span, core-words, core-row, core-rows, declaration-records, joined}
+use Rattle.terms.proofs.Arrow.{counts-same}
 use Rattle.terms.proofs.Tables.{getD-pad, Wide, joined-at}
 use Rattle.lines.proofs.Lengths.{level, sum}
 use Rattle.listing.proofs.Atoms.{label-bytes, term-bytes, name-bytes}
@@ -46,16 +47,16 @@ abbrev pub row-level : List ℕ → ℕ
 row-level r = cond (eqb (getD r 0 0) universe) (getD r 2 0) 0
 
 words-level : (l : Label) (c : Core) (children : List ℕ) → row-level (core-words l c children) ≤ l .length
-words-level l kept children = by (eqb (l .kind) universe)
+words-level l kept children = rw (counts-same (λ (k : ℕ). eqb k universe) refl (l .kind)) (by (eqb (l .kind) universe))
   where
-    by : (t : Bool) → cond t (getD (row (l .kind) (cond t (span l) [] ++ children) (l .offset)) 2 0) 0 ≤ l .length
+    by : (t : Bool) → cond t (getD (row (counts-as (l .kind)) (cond t (span l) [] ++ children) (l .offset)) 2 0) 0 ≤ l .length
     by true = omega arith
     by false = omega arith
 words-level l (var i) children = omega arith
 words-level l (global j) children = omega arith
 words-level l unknown children = omega arith
 
-trees-level : (s : List ℕ) (e : ℕ → List Name) (g : List Name) (n : ℕ) (f : Forest Label) → sum-of row-level (map core-row (cells n (resolve s e g f))) ≤ label-bytes f
+trees-level : (s : List ℕ) (e : ℕ → Locals) (g : List Name) (n : ℕ) (f : Forest Label) → sum-of row-level (map core-row (cells n (resolve s e g f))) ≤ label-bytes f
 trees-level s e g n nil = omega arith
 trees-level s e g n (node l a r) =
     let args = resolve s (locals-in s l (e zero)) g a in

@@ -4,10 +4,11 @@ use mathlib.Core.List.{List, [], _∷_, _++_, append-assoc}
 use Prim.Native.Nat.{ℕ, suc, _+_, _-_, _*_, _/_, _%_, _≤_, _<_}
 use native.Mathlib.Omega.{arith}
 use lib.ListN.{length}
-use Rattle.terms.specs.Forms.{form-of-kind, arity-of, forms}
+use Rattle.terms.specs.Forms.{arrow, form-of-kind, arity-of, forms, forms-0-2}
 use Rattle.terms.specs.Tree.{Forest, nil, node, count, relabel}
 use Rattle.terms.specs.Label.{Label, Named}
 use Rattle.terms.specs.Resolution.{Core, kept, var, global, unknown, Resolved}
+use Rattle.terms.proofs.Arrow.{counts-never}
 use Rattle.terms.proofs.Cells.{count-relabel}
 use Rattle.terms.proofs.CoreRows.{Fits, AllFit}
 use Rattle.terms.proofs.Spans.{bytes-core, named-core}
@@ -71,11 +72,18 @@ waits c (w ∷ l) t h = settled-stop (w - c) l t (λ e. omega (arith, h, e))
 
 -- As many arguments as its kind wants.
 fits-arity : (s : List ℕ) (l : Label) (c : Core) (n : ℕ) → Fits (bytes-core s l c) n → n ≡ arity-of (spell-core s l c .kind)
-unfolding arity-of form-of-kind forms
+unfolding arity-of form-of-kind forms forms-0-2
 fits-arity s l kept n f = f .1
 fits-arity s l (var i) n f = f
 fits-arity s l (global j) n f = f
 fits-arity s l unknown n f = absurd f
+
+-- No term of a core is an arrow.
+no-arrow : (s : List ℕ) (l : Label) (c : Core) → ¬ (spell-core s l c .kind ≡ arrow)
+no-arrow s l kept e = counts-never (l .kind) e
+no-arrow s l (var i) e = omega (arith, e)
+no-arrow s l (global j) e = omega (arith, e)
+no-arrow s l unknown e = omega (arith, e)
 
 -- The text of a term with those behind it, by its own part.
 text-leaf : (x : Named) (r : Forest Named) (t : List ℕ) → leaf x ++ (print-terms r ++ t) ≡ print-terms (node x nil r) ++ t
@@ -85,12 +93,12 @@ text-leaf x r t = ap {B = List ℕ} (λ y. 32 ∷ y) (sym (append-assoc (print-f
 regroup : (w a r t : List ℕ) → ((w ++ (a ++ (41 ∷ []))) ++ r) ++ t ≡ w ++ (a ++ (41 ∷ (r ++ t)))
 regroup w a r t = simp append-assoc
 
-text-frame : (x : Named) (a r : Forest Named) (t : List ℕ) → ¬ (arity-of (x .kind) ≡ 0)
+text-frame : (x : Named) (a r : Forest Named) (t : List ℕ) → ¬ (x .kind ≡ arrow) → ¬ (arity-of (x .kind) ≡ 0)
     → opening (x .kind) ++ (print-terms a ++ (41 ∷ (print-terms r ++ t))) ≡ print-terms (node x a r) ++ t
 unfolding opening print-terms
-text-frame x a r t h =
+text-frame x a r t u h =
     ap {B = List ℕ} (λ y. 32 ∷ y)
-    (sym (ap (λ (y : List ℕ). (y ++ print-terms r) ++ t) (print-plain (x .kind) (x .name) (print-terms a) h)
+    (sym (ap (λ (y : List ℕ). (y ++ print-terms r) ++ t) (print-plain (x .kind) (x .name) (print-terms a) u h)
     ∙ ap {B = List ℕ} (λ y. 40 ∷ y) (regroup (text-word (x .kind)) (print-terms a) (print-terms r) t)))
 
 module _ (s : List ℕ) (limit : ℕ) where
@@ -144,7 +152,7 @@ module _ (s : List ℕ) (limit : ℕ) where
       ∙ ap (run limit (labels inner)) (one-frame y (less (count r) l) u (λ e. omega (arith, n, e)) (omega (arith, d, j)))
       ∙ terms (node z b q) (w ∷ l₁) (41 ∷ u) (f .1) (omega (arith, n, arity-at-most-six (y .kind))) (omega (arith, n, arity-at-most-six (y .kind))) (omega (arith, d, j))
       ∙ frame-ends (y .kind) (suc (count q)) l₁ (print-terms inner ++ (41 ∷ u)) n
-      ∙ (λ i. settled (less-one (count r) l i) (text-frame y inner others t (λ e. omega (arith, n, e)) i))
+      ∙ (λ i. settled (less-one (count r) l i) (text-frame y inner others t (no-arrow s (x .label) (x .core)) (λ e. omega (arith, n, e)) i))
 
   -- The text of the terms of a declaration.
   pub prints-terms : (f : Forest Resolved) (t : List ℕ) → AllFit (relabel (named-core s) f) → frames-of (relabel (λ r. r .label) f) ≤ limit

@@ -8,11 +8,12 @@ use native.Mathlib.Nat.{add-zero}
 use lib.Dec.{eqb}
 use lib.ListN.{length, getD, length-map}
 use borrow.Author.Tests.{eqb-true, eqb-false}
-use Rattle.terms.specs.Forms.{forms, form-of-kind, universe, holds-span-in}
+use Rattle.terms.specs.Forms.{forms, form-of-kind, universe, counts-as, holds-span-in}
 use Rattle.terms.specs.Tree.{Forest, nil, node, Cell, next, roots, cells, relabel}
 use Rattle.terms.specs.Label.{Name, Label, Named, part}
 use Rattle.terms.specs.Resolution.{Core, kept, var, global, unknown, Resolved}
 use Rattle.terms.specs.Rows.{pad, span, core-words, core-row}
+use Rattle.terms.proofs.Arrow.{counts-same}
 use Rattle.terms.proofs.Cells.{recell, next-cells, cells-relabel}
 use Rattle.terms.proofs.CoreRows.{Fits, AllFit, CellsFit, cells-fit}
 use Rattle.terms.proofs.Spans.{bytes-core, named-core}
@@ -63,24 +64,27 @@ module _ (s core : List ℕ) where
       down-first (step-row s core limit) b (length l) m ∙ (λ i. step limit (h .0 i) (run-spelled limit (suc b) l m (h .1) i))
 
 -- The row of a term that fits spells it.
-kept-spelled : (s : List ℕ) (l : Label) (k : List ℕ) → 3 ≤ l .kind
+kept-spelled : (s : List ℕ) (l : Label) (k : List ℕ) → 3 ≤ counts-as (l .kind)
     → let w = core-words l kept k in spelled-row s (getD w 0 0) (getD w 1 0) (getD w 2 0) ≡ spell-core s l kept
-kept-spelled s l k h = go (eqb (l .kind) universe) refl
+kept-spelled s l k h = go (eqb (l .kind) universe) (counts-same (λ i. eqb i universe) refl (l .kind))
   where
+    j : ℕ
+    j = counts-as (l .kind)
+
     words : Bool → List ℕ
     words b = pad 6 (cond b (span l) [] ++ k) ++ (l .offset ∷ [])
 
     at : Name → Named
-    at n = record { kind = l .kind; name = n }
+    at n = record { kind = j; name = n }
 
-    go : (b : Bool) → eqb (l .kind) universe ≡ b → spelled-row s (l .kind) (getD (words b) 0 0) (getD (words b) 1 0) ≡ at (cond b (part s (l .start) (l .length)) [])
+    go : (b : Bool) → eqb j universe ≡ b → spelled-row s j (getD (words b) 0 0) (getD (words b) 1 0) ≡ at (cond b (part s (l .start) (l .length)) [])
     go true q =
-        let e = eqb-true (l .kind) universe q in
-        ap (λ (b : Bool). at (cond b (numeral-of s (l .kind) (l .start) (l .length)) [])) (with-numerals (l .kind) (omega (arith, e)) (omega (arith, e)))
-        ∙ ap at (numeral-universe s (l .kind) (l .start) (l .length) e)
+        let e = eqb-true j universe q in
+        ap (λ (b : Bool). at (cond b (numeral-of s j (l .start) (l .length)) [])) (with-numerals j (omega (arith, e)) (omega (arith, e)))
+        ∙ ap at (numeral-universe s j (l .start) (l .length) e)
     go false q =
-        let e = eqb-false (l .kind) universe q in
-        ap (λ (b : Bool). at (cond b (numeral-of s (l .kind) (getD (words false) 0 0) (getD (words false) 1 0)) [])) (without-numerals (l .kind) (omega (arith, h, e)))
+        let e = eqb-false j universe q in
+        ap (λ (b : Bool). at (cond b (numeral-of s j (getD (words false) 0 0) (getD (words false) 1 0)) [])) (without-numerals j (omega (arith, h, e)))
 
 row-spelled : (s : List ℕ) (l : Label) (c : Core) (k : List ℕ) (n : ℕ) → Fits (bytes-core s l c) n
     → let w = core-words l c k in spelled-row s (getD w 0 0) (getD w 1 0) (getD w 2 0) ≡ spell-core s l c

@@ -9,7 +9,7 @@ use native.Mathlib.Decide.{decLt}
 use lib.Dec.{eqb, ltb, leb}
 use lib.ListN.{replicate, getD-replicate}
 use borrow.Author.Tests.{eqb-true, eq-eqb, ne-eqb, ltb-true, leb-true, le-leb}
-use Rattle.terms.specs.Forms.{Shape, alone, with-name, with-numeral, binding, plain, Form, forms, form-of-kind, arity-of, holds-span-in}
+use Rattle.terms.specs.Forms.{Shape, alone, with-name, with-numeral, binding, plain, Form, arrow, forms, forms-0-2, form-of-kind, arity-of, holds-span-in}
 use Rattle.terms.specs.Label.{Name, part}
 use Rattle.rows.proofs.Arities.{values, value-at, same-value, no-arity}
 use Rattle.kind_words.specs.KindWords.{word-of-kind}
@@ -118,17 +118,17 @@ right k =
     cond (small k) (eqb w 2) (cond (eqb (arity-of k) 0) (leb w 1) (eqb w 3))
 
 all-right : (k : ℕ) → k < 25 → right k ≡ true
-unfolding written-as shape-number arity-of form-of-kind text-forms forms
+unfolding written-as shape-number arity-of form-of-kind text-forms forms forms-0-2
 all-right k h = tested right 25 k refl h
 
 small-leaf : (k : ℕ) → k < 25 → cond (small k) (eqb (arity-of k) 0) true ≡ true
-unfolding arity-of form-of-kind forms
+unfolding arity-of form-of-kind forms forms-0-2
 small-leaf k h = tested (λ k. cond (small k) (eqb (arity-of k) 0) true) 25 k refl h
 
 module _ (k : ℕ) (n : Name) where
-  pub print-plain : (args : List ℕ) → ¬ (arity-of k ≡ 0) → print-form (form-of-kind k text-forms) n args ≡ 40 ∷ (text-word k ++ (args ++ (41 ∷ [])))
+  pub print-plain : (args : List ℕ) → ¬ (k ≡ arrow) → ¬ (arity-of k ≡ 0) → print-form (form-of-kind k text-forms) n args ≡ 40 ∷ (text-word k ++ (args ++ (41 ∷ [])))
   unfolding text-word
-  print-plain args h = go (decLt k 25)
+  print-plain args u h = go (decLt k 25)
     where
       go : Dec (k < 25) → print-form (form-of-kind k text-forms) n args ≡ 40 ∷ (text-word k ++ (args ++ (41 ∷ [])))
       go (yes l) =
@@ -148,11 +148,11 @@ module _ (k : ℕ) (n : Name) where
       go (yes l) = as-alone (form-of-kind k text-forms) n (leb-true _ _ (rw (not-small k h, eq-eqb (arity-of k) 0 e) at (all-right k l)))
       go (no l) = as-alone (form-of-kind k text-forms) n (rw (no-text-form k (omega arith), written-as) (omega arith))
 
--- No kind from 25 on has arguments.
-pub frame-kind : (k n : ℕ) → n ≡ arity-of k → ¬ (n ≡ 0) → k < 25
-frame-kind k n e h = go (decLt k 25)
+-- No kind from 26 on has arguments.
+pub frame-kind : (k n : ℕ) → n ≡ arity-of k → ¬ (n ≡ 0) → k < 26
+frame-kind k n e h = go (decLt k 26)
   where
-    go : Dec (k < 25) → k < 25
+    go : Dec (k < 26) → k < 26
     go (yes l) = l
     go (no l) = absurd (h (e ∙ no-arity k (omega arith)))
 

@@ -1,4 +1,4 @@
--- The way from the top of a type or body down to a row, and the names that come into scope on it. A row's arguments have the rows before it, each
+-- The way from the top of a type or body down to a row, and the binders that come into scope on it. A row's arguments have the rows before it, each
 -- argument those from behind the one before it up to its own. Only contracts of private functions cite this.
 use Prim.Native.Nat.{ℕ, zero, suc, _+_, _*_, _<_, _≤_}
 use mathlib.Core.Path.{_≡_}
@@ -14,7 +14,7 @@ use Rattle.surface.specs.Reader.{nowhere}
 use Rattle.binding.specs.declared.Binding.{Binding}
 use Rattle.rows.specs.DeclarationRows.{row-behind}
 use Rattle.scope.specs.Scope.{in-scope, declared-names}
-use Rattle.elaborate.specs.RowTerm.{row-word, label-at}
+use Rattle.elaborate.specs.RowTerm.{row-word, label-at, bound-at}
 use Rattle.binder.specs.declared.Way.{Way}
 
 -- The first of n numbers from i on that a test takes, or the number behind them.
@@ -43,12 +43,12 @@ module _ (t : List ℕ) (k : ℕ) where
   abbrev pub argument-with : ℕ → ℕ
   argument-with id = first-from (λ i. leb k (child-at id i)) (arity-of (label-at t id .kind)) 0
 
-  -- The name of the row's binder, if it covers that argument, in front of others.
+  -- The row's binder, if it covers that argument, in front of others.
   abbrev pub entered : List ℕ → ℕ → List Local → List Local
   entered s id locals =
-      cond (covers (label-at t id .kind) (argument-with id)) (local-of (part s (row-word t id 1) (row-word t id 2)) id ∷ locals) locals
+      cond (covers (label-at t id .kind) (argument-with id)) (local-of (bound-at s t id) id ∷ locals) locals
 
-  -- The names in scope at row k, from those at the row `id`, by a way of at most so many steps.
+  -- The local binders at row k, from those at the row `id`, by a way of at most so many steps.
   unfoldable pub walk : List ℕ → ℕ → ℕ → List Local → List Local
   walk s zero id locals = locals
   walk s (suc left) id locals = elim (eqb id k) [ true ↦ locals | false ↦ walk s left (child-at id (argument-with id)) (entered s id locals) ]
