@@ -33,18 +33,19 @@ fn is_malformed_at(tokens: &[Token], offset: &str) -> bool {
     tokens.iter().any(|token| token.start.to_string() == offset)
 }
 
-/// 2: two numerals that are not 0 and 1, and the closing parenthesis.
+/// 2: two numerals that are not 0 and 1 or 2, and the closing parenthesis.
 fn is_other_version(source: &[u8], tokens: &[Token]) -> bool {
     let [open, surface, major, minor, close, ..] = tokens else {
         return false;
     };
     let [surface, major, minor] = [surface, major, minor].map(|token| atom(source, token));
-    let is_01 = probe::same_bytes(major, b"0") && probe::same_bytes(minor, b"1");
+    let known = [b"1", b"2"].iter().any(|known| probe::same_bytes(minor, *known));
+    let known = known && probe::same_bytes(major, b"0");
     open.kind == Kind::LParen
         && probe::word_index(surface) == 1
         && probe::is_numeral(major)
         && probe::is_numeral(minor)
-        && !is_01
+        && !known
         && close.kind == Kind::RParen
 }
 
@@ -54,12 +55,13 @@ fn atom<'a>(source: &'a [u8], token: &Token) -> &'a [u8] {
     bytes.filter(|_| token.kind == Kind::Atom).unwrap_or_default()
 }
 
-/// 3: a reserved word is the atom there.
+/// 3: a reserved word is the atom there, or `arrow` in a source of 0 2; these functions know the words of 0 1.
 fn is_reserved_at(source: &[u8], tokens: &[Token], offset: &str) -> bool {
-    tokens.iter().any(|token| {
-        token.start.to_string() == offset
-            && probe::word_index(atom(source, token)) != 0
-            && probe::name_test(atom(source, token)) == 3
+    let second = tokens.get(3).is_some_and(|minor| probe::same_bytes(atom(source, minor), b"2"));
+    tokens.iter().filter(|token| token.start.to_string() == offset).any(|token| {
+        let word = atom(source, token);
+        let reserved = probe::word_index(word) != 0 && probe::name_test(word) == 3;
+        reserved || second && probe::same_bytes(word, b"arrow")
     })
 }
 

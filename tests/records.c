@@ -316,8 +316,12 @@ static void module_names(void) {
     check(told.refused == 0 && told.start == 26 && told.length == 3 && !told.has_offset && !told.offset, "a module's name", 0, 0);
     told = sulyterom_head_of(s, 30);
     check(told.refused == SULYTEROM_MALFORMED && told.has_offset && told.offset == 30 && !told.length, "a head cut off", 1, 0);
-    told = sulyterom_head_of((const uint8_t *)"(surface 0 2)", 13);
+    told = sulyterom_head_of((const uint8_t *)"(surface 0 3)", 13);
     check(told.refused == SULYTEROM_VERSION && !told.has_offset && !told.offset && !told.start, "another version", 2, 0);
+    told = sulyterom_head_of((const uint8_t *)"(surface 0 2)(module x)(arrow", 29);
+    check(told.refused == 0 && told.start == 21 && told.length == 1, "a module's name in 0 2", 4, 0);
+    told = sulyterom_head_of((const uint8_t *)"(surface 0 2)(module arrow)", 27);
+    check(told.refused == SULYTEROM_RESERVED_NAME && told.offset == 21, "a word reserved in 0 2", 5, 0);
     told = sulyterom_head_of(s, 0);
     check(told.refused == SULYTEROM_MALFORMED && told.has_offset && told.offset == 0, "an empty source", 3, 0);
 }

@@ -14,6 +14,7 @@ static char text[LONG + 1];
 static int passed, failed;
 
 #define HEAD "(surface 0 1)(module m)"
+#define HEAD_0_2 "(surface 0 2)(module m)"
 static const char input[] = HEAD "(postulate x nat)(postulate y (pi x (ref x) (ref x)))";
 
 /* What documents 01 and 02 say of the input; the words behind these are 0. */
@@ -56,7 +57,7 @@ static const int kinds[] = {
     SULYTEROM_APP,  SULYTEROM_SIGMA,    SULYTEROM_PAIR,      SULYTEROM_FST,   SULYTEROM_SND,
     SULYTEROM_ID,   SULYTEROM_REFL,     SULYTEROM_J,         SULYTEROM_EMPTY, SULYTEROM_EMPTY_ELIM,
     SULYTEROM_UNIT, SULYTEROM_STAR,     SULYTEROM_UNIT_ELIM, SULYTEROM_NAT,   SULYTEROM_ZERO,
-    SULYTEROM_SUCC, SULYTEROM_NAT_ELIM, SULYTEROM_ANN,       SULYTEROM_REF,
+    SULYTEROM_SUCC, SULYTEROM_NAT_ELIM, SULYTEROM_ANN,       SULYTEROM_REF,   SULYTEROM_ARROW,
 };
 static const int classes[] = {
     SULYTEROM_MALFORMED,         SULYTEROM_VERSION,     SULYTEROM_RESERVED_NAME, SULYTEROM_DUPLICATE_NAME,
@@ -300,6 +301,38 @@ static void binds(void) {
     refuses_to_bind("31 words of surface rows: 8", input, 9, lent, SULYTEROM_SURFACE_FULL, -1);
 }
 
+/* Edition 0 2: an arrow's surface row, its core row, and what it counts for. */
+static const char arrow[] = HEAD_0_2 "(postulate a (lam x (arrow (ref x) (ref x))))";
+static const uint32_t arrow_surface[SURFACE] = {
+    24,              55, 1, 0, 0, 0, 0, 50, /* (ref x), in the domain */
+    24,              63, 1, 0, 0, 0, 0, 58, /* (ref x), in the codomain */
+    SULYTEROM_ARROW, 0,  1, 0, 0, 0, 0, 43, /* (arrow ..) */
+    5,               41, 1, 2, 0, 0, 0, 36, /* (lam x ..) */
+};
+static const uint32_t arrow_core[CORE] = {
+    1, 0, 0, 0, 0, 0, 0, 50, /* var 0 */
+    1, 1, 0, 0, 0, 0, 0, 58, /* var 1 */
+    4, 0, 1, 0, 0, 0, 0, 43, /* pi */
+    5, 2, 0, 0, 0, 0, 0, 36, /* lam */
+};
+static const uint32_t arrow_record[DECLARATIONS] = {1, 34, 1, 3, 0};
+
+static void arrows(void) {
+    accepts("an arrow: 4 rows", arrow, 4, 1);
+    check("an arrow: every word", hold(whole, arrow_surface, arrow_core, arrow_record));
+    check("it is no binder, and counts", binder(arrow, 1, whole) == 0 && answers(2, 1, 3));
+    check("not in its domain", binder(arrow, 0, whole) == 0 && answers(2, 0, 3));
+    check("its pi spelling is the same", same(arrow, HEAD "(postulate a (lam y (pi z (ref y) (ref y))))") == 0 && answers(0, 0, 0));
+    check("a pi that binds the reference is not", same(arrow, HEAD "(postulate a (lam x (pi x (ref x) (ref x))))") == 0 && answers(1, 0, 0));
+    check("it is printed as a pi", print(arrow, whole, 200) == 0 && answers(1, 108, 0) &&
+                                       text_holds(TEXT_HEAD " (postulate \"a\" (lam (pi (var 0) (var 1))))))\n", 200));
+    refuses("the version 0 3: 2", "(surface 0 3) ]", whole, SULYTEROM_VERSION, -1);
+    refuses("half a head of 0 2: 1 at 13", "(surface 0 2)", whole, SULYTEROM_MALFORMED, 13);
+    refuses("arrow as a name in 0 2: 3 at 34", HEAD_0_2 "(postulate arrow nat)", whole, SULYTEROM_RESERVED_NAME, 34);
+    refuses("arrow as a tag in 0 1: 1 at 37", HEAD "(postulate a (arrow nat nat))", whole, SULYTEROM_MALFORMED, 37);
+    accepts("arrow as a name in 0 1", HEAD "(postulate arrow nat)", 1, 1);
+}
+
 static uint8_t head(const char *source, size_t length) {
     fill();
     return sulyterom_head((const uint8_t *)source, length, answer, 3);
@@ -467,6 +500,7 @@ int main(void) {
     lent.work = WORK - 1;
     refuses("a short work area: 11", input, lent, SULYTEROM_WORK_SHORT, -1);
 
+    arrows();
     depended();
     binds();
 

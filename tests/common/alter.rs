@@ -1,7 +1,7 @@
 //! One small change to a module's tree, careless about what it means: near misses for comparisons.
 use crate::modules::{Kind, Module, Term};
 use crate::prng::Prng;
-use crate::vocabulary::{FORMS, Form, LEAVES, ORDINARY_NAMES};
+use crate::vocabulary::{ARROW, Edition, FORMS, Form, LEAVES, ORDINARY_NAMES, pi};
 
 /// Changes one declaration: its kind, its name, or one term of its type or body.
 pub fn alter(module: &mut Module, prng: &mut Prng) {
@@ -9,6 +9,7 @@ pub fn alter(module: &mut Module, prng: &mut Prng) {
         return;
     }
     let count = module.declarations.len();
+    let edition = module.edition;
     let other = module.declarations[prng.below(count)].name.clone();
     let declaration = &mut module.declarations[prng.below(count)];
     match prng.below(8) {
@@ -22,17 +23,24 @@ pub fn alter(module: &mut Module, prng: &mut Prng) {
                 Some(body) if prng.chance(50) => body,
                 _ => &mut declaration.ty,
             };
-            alter_term(term, &other, prng);
+            alter_term(term, edition, &other, prng);
         }
     }
 }
 
 /// Walks down to some term and changes it there.
-fn alter_term(term: &mut Term, global: &str, prng: &mut Prng) {
+fn alter_term(term: &mut Term, edition: Edition, global: &str, prng: &mut Prng) {
     match term {
         Term::Node { args, .. } if prng.chance(70) => {
             let at = prng.below(args.len());
-            alter_term(&mut args[at], global, prng);
+            alter_term(&mut args[at], edition, global, prng);
+        }
+        // a pi without its name, or an arrow with one: what refers to it tells
+        Term::Node { form, binder, .. }
+            if edition == Edition::Second && form.core_word() == "pi" && prng.chance(50) =>
+        {
+            *binder = if form.binds { None } else { Some(other_name(global, prng)) };
+            *form = if form.binds { &ARROW } else { pi() };
         }
         Term::Node { form, binder, args } => match binder {
             Some(name) if prng.chance(60) => *name = other_name(global, prng),

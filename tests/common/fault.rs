@@ -48,7 +48,7 @@ pub const TEXT: [&str; 42] = [
 ];
 
 /// Of loading: the idle loaders of document 01, then reading and its limits, resolution, and the tables.
-pub const LOADING: [&str; 87] = [
+pub const LOADING: [&str; 102] = [
     "always-1",
     "always-the-head",
     "tables-untouched",
@@ -98,6 +98,22 @@ pub const LOADING: [&str; 87] = [
     "ten-after-names",
     "names-while-reading",
     "duplicates-while-reading",
+    // edition 0 2
+    "two-for-0-2",
+    "arrow-reserved-in-0-1",
+    "arrow-a-form-in-0-1",
+    "arrow-free-as-a-module-name",
+    "arrow-a-name-in-0-2",
+    "arrow-with-a-name",
+    "arrow-no-frame",
+    "seven-late-for-arrows",
+    "arrow-with-a-span",
+    "arrow-read-as-a-pi",
+    "arrow-in-the-core",
+    "arrow-codomain-not-counted",
+    "arrow-domain-counted",
+    "arrow-binds-blank",
+    "arrow-hides-names",
     // rows and records as read
     "rows-in-opening-order",
     "children-reversed",
@@ -196,7 +212,7 @@ pub const DEPENDENCE: [&str; 28] = [
 ];
 
 /// Of the question for a reference's binder: the form, the declaration, the row that is asked of, the answer, the tables.
-pub const BINDER: [&str; 23] = [
+pub const BINDER: [&str; 26] = [
     "binder-outermost",
     "binder-row-of-the-outermost",
     "binder-row-of-the-domain",
@@ -208,6 +224,9 @@ pub const BINDER: [&str; 23] = [
     "binder-lam-passed-over",
     "binder-sigma-passed-over",
     "binder-blank-passed-over",
+    "binder-arrow-not-counted",
+    "binder-arrow-counts-in-its-domain",
+    "binder-is-an-arrow",
     "binder-names-by-length",
     "binder-hidden-by-a-declaration",
     "binder-places-from-1",
@@ -223,13 +242,14 @@ pub const BINDER: [&str; 23] = [
 ];
 
 /// Of the same-core question.
-pub const SAME: [&str; 15] = [
+pub const SAME: [&str; 16] = [
     "digits-not-compared",
     "digits-by-place",
     "offsets-compared",
     "names-by-length",
     "names-by-place",
     "kinds-not-compared",
+    "arrow-unlike-a-pi",
     "last-row-left-out",
     "bodies-not-compared",
     "counts-not-compared",
@@ -242,7 +262,7 @@ pub const SAME: [&str; 15] = [
 ];
 
 /// Of the program and the command that print the listing.
-pub const LISTING: [&str; 15] = [
+pub const LISTING: [&str; 16] = [
     "no-newline-at-the-end",
     "input-read-once",
     "input-of-65535-bytes",
@@ -250,6 +270,7 @@ pub const LISTING: [&str; 15] = [
     "more-rows-lent",
     "more-declarations-lent",
     "ref-printed",
+    "arrow-printed",
     "universe-as-a-number",
     "body-of-a-postulate",
     "binder-printed",
@@ -261,7 +282,7 @@ pub const LISTING: [&str; 15] = [
 ];
 
 /// Of the module's name from the head.
-pub const HEAD: [&str; 16] = [
+pub const HEAD: [&str; 19] = [
     "head-utf8-of-all-first",
     "head-six-first",
     "head-of-the-whole-only",
@@ -278,14 +299,18 @@ pub const HEAD: [&str; 16] = [
     "head-without-six",
     "head-utf8-not-behind",
     "head-reserved-taken",
+    "head-two-for-0-2",
+    "head-arrow-taken",
+    "head-arrow-reserved-in-0-1",
 ];
 
 /// Of the least storage.
-pub const STORAGE: [&str; 37] = [
+pub const STORAGE: [&str; 38] = [
     // frames
     "storage-leaf-is-a-frame",
     "storage-ref-is-a-frame",
     "storage-forms-for-frames",
+    "storage-arrow-no-frame",
     "storage-frames-of-the-first-argument",
     "storage-frames-of-the-last-argument",
     "storage-frames-of-the-last-term",
@@ -327,7 +352,7 @@ pub const STORAGE: [&str; 37] = [
 ];
 
 /// Of printing core text.
-pub const PRINTING: [&str; 22] = [
+pub const PRINTING: [&str; 23] = [
     "semantic-head",
     "space-behind-declarations",
     "no-newline-behind-the-text",
@@ -337,6 +362,7 @@ pub const PRINTING: [&str; 22] = [
     "type-for-body",
     "children-from-behind",
     "binder-in-the-text",
+    "arrow-in-the-text",
     "var-printed-as-global",
     "counts-of-one-digit",
     "universe-digits-from-the-term",
@@ -355,7 +381,7 @@ pub const PRINTING: [&str; 22] = [
 
 /// Of reading core text: before the first token, tokens and strings, the head, reading and its limits, names, the
 /// canonical reader, rows and records, and the tables.
-pub const READING: [&str; 71] = [
+pub const READING: [&str; 73] = [
     "core-eleven-left-out",
     "core-eleven-after-utf8",
     "core-six-over-65535",
@@ -390,9 +416,11 @@ pub const READING: [&str; 71] = [
     "core-version-with-offset",
     "version-behind-format",
     "format-version-not-compared",
+    "format-0-2-taken",
     "theory-name-not-compared",
     "theory-version-not-compared",
     // reading
+    "arrow-taken-in-core-text",
     "var-out-of-range-refused",
     "global-out-of-range-refused",
     "numeral-term-is-a-frame",

@@ -1,6 +1,6 @@
 //! Modules as named trees, and a generator of them with a tunable shape.
 use crate::prng::Prng;
-use crate::vocabulary::{BINDING, FORMS, Form, LEAVES, ORDINARY_NAMES, name, numeral};
+use crate::vocabulary::{BINDING, Edition, FORMS, Form, LEAVES, name, numeral};
 
 #[derive(Clone, Debug, PartialEq)]
 pub enum Term {
@@ -27,6 +27,7 @@ pub struct Declaration {
 
 #[derive(Clone, Debug, PartialEq)]
 pub struct Module {
+    pub edition: Edition,
     pub name: String,
     pub declarations: Vec<Declaration>,
 }
@@ -62,18 +63,25 @@ impl Shape {
     }
 }
 
+/// A module of either edition.
 pub fn generate(prng: &mut Prng, shape: &Shape) -> Module {
-    let mut maker = Maker { pool: pool(prng, shape), globals: Vec::new(), locals: Vec::new(), budget: 0, prng, shape };
+    let edition = *prng.pick(&Edition::BOTH);
+    generate_in(edition, prng, shape)
+}
+
+pub fn generate_in(edition: Edition, prng: &mut Prng, shape: &Shape) -> Module {
+    let pool = pool(edition, prng, shape);
+    let mut maker = Maker { edition, pool, globals: Vec::new(), locals: Vec::new(), budget: 0, prng, shape };
     let count = maker.prng.between(0, shape.declarations);
-    Module { name: maker.pool_name(), declarations: (0..count).map(|_| maker.declaration()).collect() }
+    Module { edition, name: maker.pool_name(), declarations: (0..count).map(|_| maker.declaration()).collect() }
 }
 
 /// The names that binders and declarations are drawn from.
-fn pool(prng: &mut Prng, shape: &Shape) -> Vec<String> {
+fn pool(edition: Edition, prng: &mut Prng, shape: &Shape) -> Vec<String> {
     (0..shape.names.max(1))
         .map(|_| {
             if shape.length > 1 && prng.chance(40) {
-                prng.pick(&ORDINARY_NAMES).to_string()
+                edition.ordinary_name(prng).to_string()
             } else {
                 let length = prng.between(1, shape.length.max(1));
                 name(prng, length)
@@ -85,6 +93,7 @@ fn pool(prng: &mut Prng, shape: &Shape) -> Vec<String> {
 struct Maker<'a> {
     prng: &'a mut Prng,
     shape: &'a Shape,
+    edition: Edition,
     pool: Vec<String>,
     /// The declarations made so far.
     globals: Vec<String>,
@@ -132,7 +141,7 @@ impl Maker<'_> {
         }
         // binders are what most of the rules are about
         let from = if self.prng.chance(30) { BINDING } else { FORMS.len() };
-        let form = &FORMS[self.prng.below(from)];
+        let form = self.edition.any_form(from, self.prng);
         let binder = form.binds.then(|| self.pool_name());
         let args = (0..form.arity)
             .map(|at| self.argument(depth - 1, binder.as_ref().filter(|_| at + 1 == form.arity)))

@@ -6,7 +6,8 @@ use crate::unicode::CHARACTERS;
 /// The tokens of a module, in order.
 pub fn tokens(module: &Module) -> Vec<String> {
     let mut tokens = Vec::new();
-    push_all(&mut tokens, &["(", "surface", "0", "1", ")", "(", "module", &module.name, ")"]);
+    let [major, minor] = module.edition.version();
+    push_all(&mut tokens, &["(", "surface", major, minor, ")", "(", "module", &module.name, ")"]);
     for declaration in &module.declarations {
         push_declaration(&mut tokens, declaration);
     }

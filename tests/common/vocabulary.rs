@@ -2,6 +2,60 @@
 use crate::prng::Prng;
 
 pub const HEAD: &str = "(surface 0 1)(module m)";
+/// The same of edition 0 2.
+pub const HEAD_0_2: &str = "(surface 0 2)(module m)";
+
+/// The editions of the surface format.
+#[derive(Clone, Copy, Debug, Eq, PartialEq)]
+pub enum Edition {
+    First,
+    Second,
+}
+
+impl Edition {
+    pub const BOTH: [Self; 2] = [Self::First, Self::Second];
+
+    /// The edition that a version names.
+    pub fn of(version: [&str; 2]) -> Option<Self> {
+        Self::BOTH.into_iter().find(|edition| edition.version() == version)
+    }
+
+    pub const fn version(self) -> [&'static str; 2] {
+        match self {
+            Self::First => ["0", "1"],
+            Self::Second => ["0", "2"],
+        }
+    }
+
+    /// The head of a module named m.
+    pub const fn head(self) -> &'static str {
+        match self {
+            Self::First => HEAD,
+            Self::Second => HEAD_0_2,
+        }
+    }
+
+    /// "`arrow` is reserved in 0 2 only".
+    pub fn reserves_arrow(self, word: &str) -> bool {
+        self == Self::Second && word == ARROW.word
+    }
+
+    /// A form with term arguments by its tag.
+    pub fn form(self, word: &str) -> Option<&'static Form> {
+        if self.reserves_arrow(word) { Some(&ARROW) } else { FORMS.iter().find(|form| form.word == word) }
+    }
+
+    /// One of the first so many of FORMS or, in 0 2, every now and then an arrow.
+    pub fn any_form(self, from: usize, prng: &mut Prng) -> &'static Form {
+        if self == Self::Second && prng.chance(25) { &ARROW } else { &FORMS[prng.below(from)] }
+    }
+
+    /// One of ORDINARY_NAMES that is ordinary in this edition.
+    pub fn ordinary_name(self, prng: &mut Prng) -> &'static str {
+        let name = *prng.pick(&ORDINARY_NAMES);
+        if self.reserves_arrow(name) { "Arrow" } else { name }
+    }
+}
 
 pub const RESERVED: [&str; 27] = [
     "surface",
@@ -33,8 +87,8 @@ pub const RESERVED: [&str; 27] = [
     "ann",
 ];
 
-/// The words of a row's kinds, from kind 1.
-pub const KINDS: [&str; 24] = [
+/// The words of a row's kinds, from kind 1. The last two stand in surface rows alone.
+pub const KINDS: [&str; 25] = [
     "var",
     "global",
     "universe",
@@ -59,6 +113,7 @@ pub const KINDS: [&str; 24] = [
     "nat-elim",
     "ann",
     "ref",
+    "arrow",
 ];
 
 /// The words of a declaration's kinds, from kind 1.
@@ -84,10 +139,30 @@ const fn form(word: &'static str, binds: bool, arity: usize) -> Form {
     Form { word, binds, arity }
 }
 
+impl Form {
+    /// The word of its core row: "its core row is a pi".
+    pub fn core_word(&self) -> &'static str {
+        if self.word == ARROW.word { "pi" } else { self.word }
+    }
+
+    /// Whether its last argument counts one binder more, with a name or none.
+    pub fn counts(&self) -> bool {
+        self.binds || self.word == ARROW.word
+    }
+}
+
+/// The form that 0 2 has besides FORMS.
+pub static ARROW: Form = form("arrow", false, 2);
+
+/// The form that an arrow stands for.
+pub fn pi() -> &'static Form {
+    &FORMS[0]
+}
+
 /// The first so many of FORMS bind a name.
 pub const BINDING: usize = 3;
 
-pub const FORMS: [Form; 15] = [
+pub static FORMS: [Form; 15] = [
     form("pi", true, 2),
     form("sigma", true, 2),
     form("lam", true, 1),
@@ -105,7 +180,7 @@ pub const FORMS: [Form; 15] = [
     form("ann", false, 2),
 ];
 
-/// Names that look reserved, or look alike, and are ordinary.
+/// Names that look reserved, or look alike, and are ordinary, `arrow` in 0 1 only.
 pub const ORDINARY_NAMES: [&str; 24] = [
     "_",
     "x",

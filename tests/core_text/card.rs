@@ -109,9 +109,10 @@ const STRINGS: [Reading; 30] = [
 ];
 
 /// 2 covers five words, and is given behind the theory's parenthesis.
-const VERSIONS: [Reading; 14] = [
+const VERSIONS: [Reading; 15] = [
     (Any, LISTING, r#"(hott-core (format 1 1) (theory "mltt-core" 0 1)"#, "refused 2"),
     (Any, LISTING, r#"(hott-core (format 0 2) (theory "mltt-core" 0 1)"#, "refused 2"),
+    (Any, LISTING, r#"(hott-core (format 0 1) (theory "mltt-core" 0 2)"#, "refused 2"),
     (Any, LISTING, r#"(hott-core (format 0 1) (theory "mltt-cor" 0 1)"#, "refused 2"),
     (Any, LISTING, r#"(hott-core (format 0 1) (theory "mltt-core" 1 1)"#, "refused 2"),
     (Any, LISTING, r#"(hott-core (format 0 1) (theory "mltt-core" 0 0)"#, "refused 2"),
@@ -127,7 +128,7 @@ const VERSIONS: [Reading; 14] = [
 ];
 
 /// Numerals have no leading zero and no greatest value; what var and global name is not looked at.
-const NUMERALS: [Reading; 7] = [
+const NUMERALS: [Reading; 8] = [
     (
         Any,
         LISTING,
@@ -145,6 +146,7 @@ const NUMERALS: [Reading; 7] = [
     (Any, LISTING, r#"{H} (postulate "a" (universe 07))))"#, "refused 13 at 88"),
     (Any, LISTING, r#"{H} (postulate "a" (universe -1))))"#, "refused 13 at 88"),
     (Any, LISTING, r#"{H} (postulate "a" (ref x))))"#, "refused 13 at 79"),
+    (Any, LISTING, r#"{H} (postulate "a" (arrow nat nat))))"#, "refused 13 at 79"),
 ];
 
 /// A name used twice is 13 at 0, behind everything but the canonical reader's own test.

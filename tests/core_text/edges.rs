@@ -146,6 +146,11 @@ fn long(prng: &mut Prng) -> Vec<u8> {
 /// A text in which one token is another, is missing or stands twice.
 fn changed_token(prng: &mut Prng) -> Vec<u8> {
     let mut tokens = tokens(&small(prng), prng);
+    // a tag of sources in 0 2, and of no core text
+    if let Some(pi) = tokens.iter().position(|token| token == "pi").filter(|_| prng.chance(20)) {
+        tokens[pi] = String::from("arrow");
+        return join(&tokens, *prng.pick(&Layout::ALL), prng);
+    }
     let is_word = |at: &usize| !["(", ")"].contains(&tokens[*at].as_str());
     let words: Vec<usize> = (0..tokens.len()).filter(is_word).collect();
     let at = if prng.chance(60) { *prng.pick(&words) } else { prng.below(tokens.len()) };

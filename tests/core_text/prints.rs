@@ -1,5 +1,5 @@
-//! What is printed, written out. Sources and texts are escaped, with the source's head as `{H}` and the text's as
-//! `{T}`.
+//! What is printed, written out. Sources and texts are escaped, with the source's head as `{H}`, that of 0 2 as `{2}`, and the
+//! text's as `{T}`.
 use super::check::{Source, printed, read_out};
 use super::expected::Reference;
 use super::lines::lines;
@@ -24,7 +24,7 @@ const FORMS_TEXT: &str = concat!(
     r#"(empty-elim (unit-elim nat star zero) (nat-elim nat zero star unit)))))\n"#,
 );
 
-const PRINTS: [Printing; 16] = [
+const PRINTS: [Printing; 19] = [
     (LISTING, 1_000, "{H}", r"{T}))\n"),
     (LISTING, 65, "{H}", r"{T}))\n"),
     (LISTING, 64, "{H}", "refused 14"),
@@ -44,6 +44,15 @@ const PRINTS: [Printing; 16] = [
         r"{H}(postulate a (lam x \{11:(lam y }(ref x)\{12:)})",
         r#"{T} (postulate "a" \{12:(lam }(var 11)\{12:)})))\n"#,
     ),
+    // an arrow is printed as a pi
+    (
+        LISTING,
+        1_000,
+        "{2}(postulate f (pi x nat (arrow (ref x) (ref x))))",
+        r#"{T} (postulate "f" (pi nat (pi (var 0) (var 1))))))\n"#,
+    ),
+    (LISTING, 0, "{2}(postulate f (arrow nat (ref arrow)))", "refused 3 at 52"),
+    (LISTING, 64, "{2}", "refused 14"),
     (LISTING, 1_000, "", "refused 1 at 0"),
     (LISTING, 0, "{H}(postulate nat nat)", "refused 3 at 34"),
     (LISTING, 0, "{H}(postulate a (ref q))", "refused 5"),
@@ -56,7 +65,8 @@ const PRINTS: [Printing; 16] = [
 /// Prints each of the above.
 pub fn count(tally: &mut Tally) {
     for (sizes, length, escaped, answer) in PRINTS {
-        let source = unescape(&escaped.replace("{H}", vocabulary::HEAD)).expect("an escaped source");
+        let escaped = escaped.replace("{H}", vocabulary::HEAD).replace("{2}", vocabulary::HEAD_0_2);
+        let source = unescape(&escaped).expect("an escaped source");
         let answer = unescape(&answer.replace("{T}", HEAD)).expect("an escaped text");
         tally.count(&source, prints(&source, sizes, length, &answer));
     }

@@ -79,7 +79,7 @@ fn push_term(tokens: &mut Vec<String>, term: &Term, prng: &mut Prng) {
         }
         Term::Universe(digits) => tokens.extend(words(&["(", "universe", digits, ")"])),
         Term::Node { form, args, .. } => {
-            tokens.extend(words(&["(", form.word]));
+            tokens.extend(words(&["(", form.core_word()]));
             args.iter().for_each(|arg| push_term(tokens, arg, prng));
             tokens.extend(words(&[")"]));
         }

@@ -31,7 +31,7 @@ fn declarations_agree(left: &Declaration, right: &Declaration) -> bool {
 }
 
 /// "the same form; at a universe also the same numeral bytes; at a ref also either both bound, by binders at the same
-/// place, or both free, with equal name bytes"
+/// place, or both free, with equal name bytes"; "an arrow agrees in form with a pi", and binds nothing
 fn terms_agree<'a>(pair: (&'a Term, &'a Term), place: &mut Vec<usize>, around: &mut (Around<'a>, Around<'a>)) -> bool {
     match pair {
         (Term::Leaf(a), Term::Leaf(b)) => a == b,
@@ -41,7 +41,7 @@ fn terms_agree<'a>(pair: (&'a Term, &'a Term), place: &mut Vec<usize>, around: &
             (left, right) => left == right,
         },
         (Term::Node { form: f, binder: a, args: left }, Term::Node { form: g, binder: b, args: right }) => {
-            f == g
+            f.core_word() == g.core_word()
                 && left.iter().zip(right).enumerate().all(|(argument, pair)| {
                     // the binder covers the codomain or body, which is the last argument
                     let covered = argument + 1 == left.len();

@@ -1,12 +1,13 @@
-//! Document 01's readings written out: its card, where each limit is met, and scope. Sources are escaped, and `{H}` is the
-//! head. A listing is joined by `|`, and where only its first line is written it ends in `|..`.
+//! Documents 01's and 02's readings written out: the card, where each limit is met, scope, and edition 0 2. Sources are escaped,
+//! and `{H}` is the head, `{2}` that of 0 2. A listing is joined by `|`, and where only its first line is written it ends in `|..`.
 use super::check::loaded;
 use super::expected::Reference;
 use super::listing::lines;
+use super::station::load;
 use super::tables::{LISTING, Rubbish, Sizes, Tables, WORK};
 use common::escape::unescape;
 use common::tally::{Mismatch, Tally, differ};
-use common::vocabulary::HEAD;
+use common::vocabulary::{HEAD, HEAD_0_2};
 use std::process::ExitCode;
 
 type Reading = (Sizes, &'static str, &'static str);
@@ -143,6 +144,59 @@ const SCOPE: [Reading; 8] = [
     ),
 ];
 
+/// Edition 0 2. What its words are and count is in answers.txt too, from the same sentences.
+const ARROWS: [Reading; 32] = [
+    (LISTING, "{2}", EMPTY),
+    (LISTING, "(surface 0 2)", "refused 1 at 13"),
+    (LISTING, "(surface 0 3)]", "refused 2"),
+    (LISTING, "(surface 0 20)]", "refused 2"),
+    (LISTING, "(surface 1 2)]", "refused 2"),
+    (LISTING, "(surface 0 02)", "refused 1 at 11"),
+    // reserved in 0 2 only
+    (LISTING, "(surface 0 2)(module arrow)", "refused 3 at 21"),
+    (LISTING, "{2}(postulate arrow nat)", "refused 3 at 34"),
+    (LISTING, "{2}(postulate a (pi arrow nat nat))", "refused 3 at 40"),
+    (LISTING, "{2}(postulate a (ref arrow))", "refused 3 at 41"),
+    (LISTING, "{2}(postulate a arrow)", "refused 1 at 36"),
+    (LISTING, "(surface 0 1)(module arrow)", EMPTY),
+    (
+        LISTING,
+        "{H}(postulate arrow nat)(postulate a (pi arrow (ref arrow) (ref arrow)))",
+        "nodes 4 declarations 2|0 nat|1 global 0|2 var 0|3 pi 1 2|0 postulate arrow 0|1 postulate a 3",
+    ),
+    (LISTING, "{H}(postulate a (arrow nat nat))", "refused 1 at 37"),
+    // two terms, no name
+    (LISTING, "{2}(postulate a (arrow nat nat))", "nodes 3 declarations 1|0 nat|1 nat|2 pi 0 1|0 postulate a 2"),
+    (LISTING, "{2}(postulate a (arrow x nat nat))", "refused 1 at 43"),
+    (LISTING, "{2}(postulate a (arrow nat))", "refused 1 at 46"),
+    (LISTING, "{2}(postulate a (arrow nat nat nat))", "refused 1 at 51"),
+    // one more in the codomain, none in the domain; `_` is hidden by none and bound by none
+    (
+        LISTING,
+        "{2}(postulate a (lam x (arrow (ref x) (ref x))))",
+        "nodes 4 declarations 1|0 var 0|1 var 1|2 pi 0 1|3 lam 2|0 postulate a 3",
+    ),
+    (
+        LISTING,
+        "{2}(postulate a (lam _ (arrow nat (ref _))))",
+        "nodes 4 declarations 1|0 nat|1 var 1|2 pi 0 1|3 lam 2|0 postulate a 3",
+    ),
+    (LISTING, "{2}(postulate a (arrow nat (ref _)))", "refused 5"),
+    // a frame like any other: 7 right behind the tag
+    (LISTING, "{2}(postulate a \\{511:(arrow nat }nat\\{511:)})", "nodes 1023 declarations 1|.."),
+    (LISTING, "{2}(postulate a \\{512:(arrow }(arrow", "refused 7"),
+    (LISTING, "{2}(postulate a \\{512:(arrow }(arrow ]", "refused 7"),
+    (LISTING, "{2}(postulate a \\{512:(arrow }(arrow]", "refused 1 at 3626"),
+    (LISTING, "{2}(postulate a \\{512:(arrow }(arrows", "refused 1 at 3621"),
+    (LISTING, "{2}(postulate a \\{512:(arrow }(pi arrow", "refused 3 at 3624"),
+    // 8 with its parenthesis, 9, 10
+    (with_surface(16), "{2}(postulate a (arrow nat nat", "refused 1 at 50"),
+    (with_surface(16), "{2}(postulate a (arrow nat nat)", "refused 8"),
+    (with_declarations(4), "{2}(postulate a (arrow nat nat))", "refused 9"),
+    (with_core(16), "{2}(postulate a (arrow nat (ref _)))", "refused 10"),
+    (with_core(24), "{2}(postulate a (arrow nat (ref _)))", "refused 5"),
+];
+
 const fn with_surface(surface: usize) -> Sizes {
     Tables { surface, ..LISTING }
 }
@@ -169,7 +223,17 @@ pub fn run() -> ExitCode {
         let source = source(escaped);
         tally.count(&source, read_out(&source, sizes, answer));
     }
+    arrow_words(&mut tally);
     tally.finish()
+}
+
+/// "surface kind 25. Its core row is a pi": both rows, word by word.
+fn arrow_words(tally: &mut Tally) {
+    let source = source("{2}(postulate a (arrow unit nat))");
+    let left = load(&source, LISTING, Rubbish::Ones).tables;
+    let rows = [&left.surface[16..24], &left.core[16..24]].concat();
+    let told = [25, 0, 1, 0, 0, 0, 0, 36, 4, 0, 1, 0, 0, 0, 0, 36];
+    tally.count(&source, differ("rows of an arrow", format!("{told:?}"), format!("{rows:?}")));
 }
 
 /// The sources of all readings.
@@ -178,11 +242,11 @@ pub fn sources() -> impl Iterator<Item = Vec<u8>> {
 }
 
 fn all() -> Vec<Reading> {
-    [&CARD[..], &FRAMES, &ROWS, &RECORDS, &ORDER, &SCOPE].concat()
+    [&CARD[..], &FRAMES, &ROWS, &RECORDS, &ORDER, &SCOPE, &ARROWS].concat()
 }
 
 fn source(escaped: &str) -> Vec<u8> {
-    unescape(&escaped.replace("{H}", HEAD)).expect("an escaped source")
+    unescape(&escaped.replace("{H}", HEAD).replace("{2}", HEAD_0_2)).expect("an escaped source")
 }
 
 /// Loads, compares every word with what is expected, and the answer with what is written above.

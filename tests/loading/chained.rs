@@ -3,7 +3,7 @@
 //! names, several rows of one declaration lead to another.
 use common::modules::{Declaration, Kind, Module, Term};
 use common::prng::Prng;
-use common::vocabulary::{BINDING, FORMS, LEAVES};
+use common::vocabulary::{BINDING, Edition, FORMS, LEAVES};
 
 /// The kinds of a module's declarations.
 const MIXTURES: [&[Kind]; 6] = [
@@ -29,7 +29,8 @@ pub fn chained(prng: &mut Prng) -> Module {
     let kinds = if prng.chance(40) { MIXTURES[MIXTURES.len() - 1] } else { prng.pick::<&[Kind]>(&MIXTURES) };
     let near = *prng.pick(&[0, 50, 90]);
     let more = *prng.pick(&[0, 0, 1, 2]);
-    module(count, Maker { prng, kinds, near, least: 0, more, names: Vec::new() })
+    let edition = *prng.pick(&Edition::BOTH);
+    module(count, Maker { prng, edition, kinds, near, least: 0, more, names: Vec::new() })
 }
 
 /// A module of so many declarations, each of which names one of the two before: chains are as long, or opaque bodies end them.
@@ -39,16 +40,18 @@ pub fn long(count: usize, prng: &mut Prng) -> Module {
     } else {
         &[Kind::Postulate, Kind::Transparent, Kind::Opaque]
     };
-    module(count, Maker { prng, kinds, near: 100, least: 1, more: 0, names: Vec::new() })
+    let edition = *prng.pick(&Edition::BOTH);
+    module(count, Maker { prng, edition, kinds, near: 100, least: 1, more: 0, names: Vec::new() })
 }
 
 fn module(count: usize, mut maker: Maker<'_>) -> Module {
     let declarations = (0..count).map(|place| maker.declaration(place)).collect();
-    Module { name: String::from("m"), declarations }
+    Module { edition: maker.edition, name: String::from("m"), declarations }
 }
 
 struct Maker<'a> {
     prng: &'a mut Prng,
+    edition: Edition,
     kinds: &'a [Kind],
     /// Percentage of names that are one of the last two: where there are many, chains are long.
     near: usize,
@@ -81,7 +84,7 @@ impl Maker<'_> {
         if names == 1 && self.prng.chance(70) {
             return Term::Ref(self.earlier());
         }
-        let form = &FORMS[self.prng.below(FORMS.len())];
+        let form = self.edition.any_form(FORMS.len(), self.prng);
         let binder = form.binds.then(|| self.binder());
         let mut left = names;
         let mut args = Vec::new();

@@ -5,7 +5,7 @@ use super::expected::Reference;
 use super::sizes::exact;
 use super::tables::Rubbish;
 use common::tally::Tally;
-use common::vocabulary::{HEAD, NO_NAMES, ORDINARY_NAMES, RESERVED};
+use common::vocabulary::{ARROW, HEAD, HEAD_0_2, NO_NAMES, ORDINARY_NAMES, RESERVED};
 use std::process::ExitCode;
 
 /// Runs, comments and names have up to so many bytes: some blocks of eight and of sixteen.
@@ -13,9 +13,12 @@ const LONGEST: usize = 40;
 /// Another byte stands in a run of layout at the places before this one.
 const PLACES: usize = 18;
 
-/// A module of which every byte is changed. The comment has more than eighteen.
-const MODULE: &str = "{H};a comment of 20 byte\n\
-    (postulate k nat)(opaque abc (pi xyz (ref k)(universe 120)) (lam y (ref y)))";
+/// Modules of which every byte is changed. The comment has more than eighteen.
+const MODULES: [&str; 2] = [
+    "{H};a comment of 20 byte\n\
+    (postulate k nat)(opaque abc (pi xyz (ref k)(universe 120)) (lam y (ref y)))",
+    "{2}(opaque k (arrow nat(arrow;\nnat unit)) (lam y (arrow (ref y) (ref y))))",
+];
 const CHARACTERS: [&str; 7] = ["\u{e9}", "\u{2200}", "\u{1d11e}", "\u{a0}", "\u{85}", "\u{2028}", "\u{feff}"];
 
 /// Layout at `~`: at both ends, before numerals, names, words and parentheses.
@@ -44,7 +47,9 @@ const LONG_COMMENT: usize = 150;
 const IN_LONG_COMMENTS: [&[u8]; 6] = [b"\xc3\xa9", b"\xe2\x88\x80", b"\xf0\x9d\x84\x9e", b"\x80", b"\xe2\x88", b"\xff"];
 
 /// A name behind layout at `~`, and a reference to it.
-const NAMED: [&str; 5] = [
+const NAMED: [&str; 7] = [
+    "(surface 0 2)(module~)",
+    "{2}(postulate b (lam~ (arrow nat (ref~))))",
     "(surface 0 1)(module~)",
     "{H}(postulate~ nat)(postulate b (ref~))",
     "{H}(opaque~\nnat zero)(postulate b (ref~\n))",
@@ -52,11 +57,21 @@ const NAMED: [&str; 5] = [
     "{H}(postulate b (lam~\n(ref~\n)))",
 ];
 /// A name that ends the source.
-const ENDED: [&str; 4] = ["(surface 0 1)(module~", "{H}(postulate~", "{H}(postulate b (pi~", "{H}(postulate b (ref~"];
+const ENDED: [&str; 5] = [
+    "(surface 0 1)(module~",
+    "(surface 0 2)(module~",
+    "{H}(postulate~",
+    "{H}(postulate b (pi~",
+    "{H}(postulate b (ref~",
+];
 const BEFORE_NAMES: [&str; 2] = [" ", "  ;c\n"];
 const IN_NAMES: [&str; 7] = ["7", "_", "-", "Z", "[", ";", "("];
 /// A word at `~`: of a declaration, of a form, and by itself; one of them is at the source's end.
-const WORDED: [&str; 7] = [
+const WORDED: [&str; 11] = [
+    "{2}(~ k nat)",
+    "{2}(postulate k ~)",
+    "{2}(postulate k (~ nat nat))",
+    "{2}(postulate k (~",
     "{H}(~ k nat)",
     "{H}(~ k nat zero)",
     "{H}(postulate k ~)",
@@ -84,7 +99,7 @@ pub fn visit_all(visit: impl FnMut(&[u8])) {
     sources.part("every byte in names", Sources::bytes_of_names);
     sources.part("names with one other byte", Sources::names);
     sources.part("runs of layout", Sources::layout);
-    sources.part("every byte in every place of a module", Sources::bytes);
+    sources.part("every byte in every place of two modules", Sources::bytes);
 }
 
 struct Sources<Visit> {
@@ -105,12 +120,11 @@ impl<Visit: FnMut(&[u8])> Sources<Visit> {
     }
 
     fn bytes(&mut self) {
-        let module = filled(MODULE, b"");
-        for other in every() {
+        for (other, module) in every().iter().flat_map(|other| MODULES.map(|module| (other, filled(module, b"")))) {
             for at in 0..=module.len() {
-                self.visit(&[&module[..at], &other, &module[at..]].concat());
+                self.visit(&[&module[..at], other, &module[at..]].concat());
                 if at < module.len() {
-                    self.visit(&[&module[..at], &other, &module[at + 1..]].concat());
+                    self.visit(&[&module[..at], other, &module[at + 1..]].concat());
                 }
             }
         }
@@ -170,7 +184,7 @@ impl<Visit: FnMut(&[u8])> Sources<Visit> {
     }
 
     fn words(&mut self, check: impl Fn(&mut Self, &[u8])) {
-        for word in RESERVED {
+        for word in RESERVED.into_iter().chain([ARROW.word]) {
             let mut like = vec![word.to_string(), word[1..].to_string(), word[..word.len() - 1].to_string()];
             like.extend(["a", "Z", "0", "_", "-", "-elim"].map(|more| format!("{word}{more}")));
             like.extend(["a", "Z", "0", "_", "-", "nat-"].map(|more| format!("{more}{word}")));
@@ -245,9 +259,9 @@ fn every() -> Vec<Vec<u8>> {
     bytes.chain(CHARACTERS.map(|character| character.as_bytes().to_vec())).collect()
 }
 
-/// A module with these bytes in the place of each `~`, and the head where `{H}` stands.
+/// A module with these bytes in the place of each `~`, and a head where `{H}` or `{2}` stands.
 fn filled(module: &str, bytes: &[u8]) -> Vec<u8> {
-    let module = module.replace("{H}", HEAD);
+    let module = module.replace("{H}", HEAD).replace("{2}", HEAD_0_2);
     let parts: Vec<&[u8]> = module.as_bytes().split(|byte| *byte == b'~').collect();
     parts.join(bytes)
 }

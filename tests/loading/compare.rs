@@ -30,7 +30,7 @@ pub fn run(count: usize, seed: u64) -> ExitCode {
         }
     }
     let length = by_tokens(short::tokens(), count, |source| comparison.compare(source));
-    println!("all sources of up to {length} tokens behind each of four beginnings");
+    println!("all sources of up to {length} tokens behind each of six beginnings");
     let longest = if count < 100_000 { 2 } else { 4 };
     by_bytes(short::bytes(), longest, |source| {
         comparison.compare(source);
@@ -42,15 +42,18 @@ pub fn run(count: usize, seed: u64) -> ExitCode {
 struct Comparison {
     prng: Prng,
     tally: Tally,
-    /// How often each class came, and acceptance as 0.
+    /// How often each class came, and acceptance as 0; and so for sources whose head is 0 2.
     classes: [usize; 12],
-    /// How many pairs of accepted modules agree, and how many do not.
+    second: [usize; 12],
+    /// How many pairs of accepted modules agree, and how many do not; and so for pairs of both editions.
     pairs: [usize; 2],
+    across: [usize; 2],
 }
 
 impl Comparison {
     fn new(seed: u64) -> Self {
-        Self { prng: Prng::new(seed), tally: Tally::default(), classes: [0; 12], pairs: [0; 2] }
+        let (prng, tally) = (Prng::new(seed), Tally::default());
+        Self { prng, tally, classes: [0; 12], second: [0; 12], pairs: [0; 2], across: [0; 2] }
     }
 
     fn random(&mut self, at: usize) {
@@ -104,6 +107,7 @@ impl Comparison {
         self.tally.count(reference.source, mismatch);
         if let Some(loaded) = &loaded {
             self.classes[usize::from(loaded.class)] += 1;
+            self.second[usize::from(loaded.class)] += usize::from(answers::is_second(reference.source));
         }
         loaded
     }
@@ -137,18 +141,24 @@ impl Comparison {
         if let [Some(first), Some(second)] = &accepted {
             let agreed = agree(left, right);
             self.pairs[usize::from(!agreed)] += 1;
+            self.across[usize::from(!agreed)] += usize::from(left.edition != right.edition);
             let same = same_core((&sources[0], first), (&sources[1], second));
             let both = [&sources[0][..], b"\n", &sources[1]].concat();
             self.tally.count(&both, differ("same core of a pair", agreed, same));
         }
     }
 
-    /// Every class but 12 must have come, and pairs of both sorts.
+    /// Every class but 12 must have come, of sources whose head is 0 2 every one but 2 besides, and pairs of all sorts.
     fn finish(mut self, enough: bool) -> ExitCode {
-        let Self { classes, pairs, .. } = self;
+        let Self { classes, second, pairs, across, .. } = self;
         println!("accepted {}, refused by class from 1 {:?}", classes[0], &classes[1..]);
-        println!("pairs that agree {}, that do not {}", pairs[0], pairs[1]);
-        if enough && (classes.contains(&0) || pairs.contains(&0)) {
+        println!("of these with the head 0 2: accepted {}, refused {:?}", second[0], &second[1..]);
+        println!(
+            "pairs that agree {}, that do not {}; of both editions {} and {}",
+            pairs[0], pairs[1], across[0], across[1]
+        );
+        let missing = (0..second.len()).any(|class| (second[class] == 0) != (class == 2));
+        if enough && (classes.contains(&0) || missing || pairs.contains(&0) || across.contains(&0)) {
             self.tally.broken("some answer never came");
         }
         self.tally.finish()

@@ -4,7 +4,7 @@ use common::modules::{Module, Shape, generate};
 use common::printing::{Layout, comment, join, tokens};
 use common::prng::Prng;
 use common::unicode::{FAULTS, MARK};
-use common::vocabulary::{FORMS, HEAD, NO_NAMES, ORDINARY_NAMES, RESERVED, numeral};
+use common::vocabulary::{Edition, FORMS, NO_NAMES, ORDINARY_NAMES, RESERVED, numeral};
 
 pub fn source(prng: &mut Prng) -> Vec<u8> {
     match prng.below(32) {
@@ -44,7 +44,7 @@ fn side_by_side(prng: &mut Prng) -> Module {
 
 /// About 512 open frames, and then a fragment and nothing more.
 fn open_frames(prng: &mut Prng) -> Vec<u8> {
-    const FRAGMENTS: [&str; 16] = [
+    const FRAGMENTS: [&str; 21] = [
         "",
         "(",
         "(bogus",
@@ -57,16 +57,22 @@ fn open_frames(prng: &mut Prng) -> Vec<u8> {
         "(pi a-b",
         "(pi x",
         "(pi x]",
+        "(arrow",
+        "(arrow ",
+        "(arrow]",
+        "(arrow ]",
+        "(arrow arrow",
         "(ref q)",
         "nat",
         "(universe 0)",
         ")",
     ];
     let frames = *prng.pick(&[3, 510, 511, 512, 512, 512, 513]);
-    let mut text = format!("{HEAD}(postulate a ");
+    let edition = *prng.pick(&Edition::BOTH);
+    let mut text = format!("{}(postulate a ", edition.head());
     for _ in 0..frames {
-        let form = prng.pick(&FORMS);
-        let name = if form.binds { *prng.pick(&ORDINARY_NAMES) } else { "" };
+        let form = edition.any_form(FORMS.len(), prng);
+        let name = if form.binds { edition.ordinary_name(prng) } else { "" };
         let inner = prng.below(form.arity);
         text.push_str(&format!("({} {name} {}", form.word, "nat ".repeat(inner)));
     }
@@ -87,10 +93,22 @@ fn marked(prng: &mut Prng) -> Vec<u8> {
 fn other_version(prng: &mut Prng) -> Vec<u8> {
     let mut number = || {
         let digits = prng.between(1, 3);
-        if prng.chance(60) { prng.pick(&["0", "1", "00", "01", "2", "10"]).to_string() } else { numeral(prng, digits) }
+        let some = ["0", "0", "1", "2", "2", "3", "00", "01", "02", "10", "20"];
+        if prng.chance(60) { prng.pick(&some).to_string() } else { numeral(prng, digits) }
     };
     let head = format!("(surface {} {}", number(), number());
-    let rest = *prng.pick(&["", ")", ") ]", ")(module m)", " 1)", "]", ")(module nat)", ")\u{e9}"]);
+    let rest = *prng.pick(&[
+        "",
+        ")",
+        ") ]",
+        ")(module m)",
+        " 1)",
+        "]",
+        ")(module nat)",
+        ")(module arrow)",
+        ")(module m)(postulate a (arrow nat nat))",
+        ")\u{e9}",
+    ]);
     format!("{head}{rest}").into_bytes()
 }
 
@@ -112,11 +130,12 @@ fn changed_token(prng: &mut Prng) -> Vec<u8> {
     let is_word = |at: &usize| tokens[*at].starts_with(|first: char| first.is_ascii_alphabetic() || first == '_');
     let words: Vec<usize> = (0..tokens.len()).filter(is_word).collect();
     let at = if prng.chance(60) { *prng.pick(&words) } else { prng.below(tokens.len()) };
-    let other = match prng.below(6) {
+    let other = match prng.below(7) {
         0 | 1 => *prng.pick(&RESERVED),
         2 => *prng.pick(&ORDINARY_NAMES),
         3 => *prng.pick(&NO_NAMES),
-        _ => *prng.pick(&["(", ")", "]", "0", "1", "00", "07", ";"]),
+        4 => "arrow",
+        _ => *prng.pick(&["(", ")", "]", "0", "1", "2", "00", "07", ";"]),
     };
     match prng.below(6) {
         0 => drop(tokens.remove(at)),

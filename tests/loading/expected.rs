@@ -2,12 +2,12 @@
 //! beside them where terms start, which the Rust does not tell.
 use super::order::{self, Limits, Reading, Span, Stored};
 use super::tables::{OFFSET, RECORD, ROW, Sizes, WORK};
+use answers::Read;
 use answers::rows::{Row, core_rows, records, surface_rows};
 use common::escape::escape;
 use common::refusal::Refusal;
 use common::unicode::MARK;
 use common::vocabulary::{DECLARATION_KINDS, KINDS, kind_number};
-use hott_kernel::surface::SurfaceModule;
 use hott_kernel::syntax::Module;
 
 /// "6 source over 65,535 bytes"
@@ -35,7 +35,7 @@ impl Content {
 /// A source with the Rust's answer. It serves any sizes of the tables.
 pub struct Reference<'a> {
     pub source: &'a [u8],
-    read: Result<SurfaceModule, Refusal>,
+    read: Result<Read, Refusal>,
     /// Reading with tables of any size, of a source that is UTF-8 without the mark.
     reading: Option<Reading>,
     resolved: Result<Content, Refusal>,
@@ -63,7 +63,7 @@ impl<'a> Reference<'a> {
     }
 
     /// The Rust's module of a source that it reads, whatever its names are.
-    pub fn module(&self) -> Option<&SurfaceModule> {
+    pub fn module(&self) -> Option<&Read> {
         self.read.as_ref().ok()
     }
 
@@ -115,7 +115,7 @@ fn text(source: &[u8]) -> Option<&str> {
     std::str::from_utf8(source).ok().filter(|_| !source.starts_with(MARK))
 }
 
-fn content(source: &[u8], read: &SurfaceModule, core: &Module, reading: &Reading) -> Content {
+fn content(source: &[u8], read: &Read, core: &Module, reading: &Reading) -> Content {
     let (surface, resolved) = (surface_rows(read), core_rows(core));
     assert_eq!((surface.len(), resolved.len()), (reading.rows.len(), reading.rows.len()), "rows");
     let mut content = Content::default();

@@ -2,7 +2,7 @@
 use common::modules::{Declaration, Kind, Module, Shape, Term, generate};
 use common::printing::{Layout, print};
 use common::prng::Prng;
-use common::vocabulary::{BINDING, FORMS, LEAVES, ORDINARY_NAMES, name, numeral};
+use common::vocabulary::{BINDING, Edition, FORMS, LEAVES, name, numeral};
 
 const LAYOUTS: [Layout; 3] = [Layout::Tight, Layout::Spaced, Layout::Wild];
 
@@ -38,28 +38,33 @@ pub fn small(prng: &mut Prng) -> Module {
 /// A declaration whose type or body is about as deep as a term may be.
 pub fn deep(prng: &mut Prng) -> Module {
     let frames = *prng.pick(&[510, 511, 512, 512, 513, 514, 600]);
-    let pool: Vec<String> = (0..prng.between(1, 3)).map(|_| prng.pick(&ORDINARY_NAMES).to_string()).collect();
-    let ty = deep_term(frames, &mut Vec::new(), &pool, prng);
-    let body = prng.chance(50).then(|| deep_term(500, &mut Vec::new(), &pool, prng));
+    let edition = *prng.pick(&Edition::BOTH);
+    let pool: Vec<String> = (0..prng.between(1, 3)).map(|_| edition.ordinary_name(prng).to_string()).collect();
+    let ty = deep_term(edition, frames, &mut Vec::new(), &pool, prng);
+    let body = prng.chance(50).then(|| deep_term(edition, 500, &mut Vec::new(), &pool, prng));
     let kind = if body.is_some() { Kind::Opaque } else { Kind::Postulate };
     let declaration = Declaration { kind, name: String::from("a"), ty, body };
-    Module { name: String::from("m"), declarations: vec![declaration] }
+    Module { edition, name: String::from("m"), declarations: vec![declaration] }
 }
 
 /// So many forms inside each other, the inner one at any argument.
-fn deep_term(frames: usize, around: &mut Vec<String>, pool: &[String], prng: &mut Prng) -> Term {
+fn deep_term(edition: Edition, frames: usize, around: &mut Vec<String>, pool: &[String], prng: &mut Prng) -> Term {
     if frames == 0 {
         return small_term(around, prng);
     }
     let from = if prng.chance(50) { BINDING } else { FORMS.len() };
-    let form = &FORMS[prng.below(from)];
+    let form = edition.any_form(from, prng);
     let binder = form.binds.then(|| prng.pick(pool).clone());
     let inner = prng.below(form.arity);
     let mut args = Vec::new();
     for at in 0..form.arity {
         let covering = binder.as_ref().filter(|_| at + 1 == form.arity);
         around.extend(covering.cloned());
-        args.push(if at == inner { deep_term(frames - 1, around, pool, prng) } else { small_term(around, prng) });
+        args.push(if at == inner {
+            deep_term(edition, frames - 1, around, pool, prng)
+        } else {
+            small_term(around, prng)
+        });
         around.truncate(around.len() - usize::from(covering.is_some()));
     }
     Term::Node { form, binder, args }
@@ -76,6 +81,7 @@ fn small_term(around: &[String], prng: &mut Prng) -> Term {
 
 /// Declarations and binders whose names share a long beginning or a long end.
 fn long_names(prng: &mut Prng) -> Module {
+    let edition = *prng.pick(&Edition::BOTH);
     let length = *prng.pick(&[31, 32, 33, 64, 300, 5_000]);
     let common = name(prng, length);
     let names: Vec<String> =
@@ -84,9 +90,9 @@ fn long_names(prng: &mut Prng) -> Module {
     let mut declarations = Vec::new();
     for name in &names {
         let args = vec![Term::Leaf("nat"), reference(prng)];
-        let form = &FORMS[0];
-        let ty = Term::Node { form, binder: Some(prng.pick(&names).clone()), args };
+        let form = edition.any_form(1, prng);
+        let ty = Term::Node { form, binder: form.binds.then(|| prng.pick(&names).clone()), args };
         declarations.push(Declaration { kind: Kind::Postulate, name: name.clone(), ty, body: None });
     }
-    Module { name: common, declarations }
+    Module { edition, name: common, declarations }
 }

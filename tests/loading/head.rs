@@ -14,7 +14,7 @@ use common::prng::Prng;
 use common::refusal::Refusal;
 use common::tally::{Mismatch, Tally, differ};
 use common::unicode::MARK;
-use common::vocabulary::HEAD;
+use common::vocabulary::{Edition, HEAD, HEAD_0_2};
 use std::process::ExitCode;
 
 pub const COUNT: usize = 20_000;
@@ -86,8 +86,8 @@ fn name(accepted: &[u8]) -> Name {
         end = answers::token_at(text, end).end;
     }
     let module = answers::read(accepted).expect("it is accepted");
-    let length = module.name().as_str().len();
-    assert!(text[..end].ends_with(module.name().as_str()), "the name that the Rust has read");
+    let length = module.name().len();
+    assert!(text[..end].ends_with(module.name()), "the name that the Rust has read");
     [end - length, length]
 }
 
@@ -144,8 +144,9 @@ impl Comparison {
 
     /// Every byte in every place of a head, before it and behind it, with a tail that is no module.
     fn every_byte(&mut self) {
-        for tail in ["", " (postulate x nat)", "]\n"] {
-            let head = format!("{HEAD}{tail}").into_bytes();
+        let heads = ["", " (postulate x nat)", "]\n"].map(|tail| format!("{HEAD}{tail}"));
+        for head in heads.into_iter().chain([HEAD_0_2.replace(" m)", " arro)")]) {
+            let head = head.into_bytes();
             for byte in 0..=u8::MAX {
                 for at in 0..=head.len() {
                     self.compare(&[&head[..at], &[byte], &head[at..]].concat());
@@ -158,15 +159,17 @@ impl Comparison {
     }
 
     fn all_short(&mut self, count: usize) {
-        const WORDS: [&str; 11] = ["(", ")", "surface", "module", "0", "1", "2", "x", "nat", "a-b", "postulate"];
-        let starts = vec![String::new(), String::from("(surface 0 1)"), HEAD.to_string()];
+        const WORDS: [&str; 12] =
+            ["(", ")", "surface", "module", "0", "1", "2", "x", "nat", "arrow", "a-b", "postulate"];
+        let heads = Edition::BOTH.map(|edition| format!("(surface {})", edition.version().join(" ")));
+        let starts = [&[String::new(), HEAD.to_string()], &heads[..]].concat();
         let length = by_tokens(Tokens { starts, words: &WORDS }, count, |source| {
             self.compare(source);
             Reference::new(source).is_open()
         });
-        println!("all sources of up to {length} tokens behind each of three beginnings");
+        println!("all sources of up to {length} tokens behind each of four beginnings");
         const BYTES: &[u8] = b"() ;\n\r\x0ba0-_]\x00\xc3\xa9\xff";
-        let starts = ["", ";", "(surface 0 1)(module", "(surface 0 1)(module m", HEAD].map(str::to_string).to_vec();
+        let starts = ["", ";", "(surface 0 1)(module", "(surface 0 2)(module m", HEAD].map(str::to_string).to_vec();
         let longest = if count < 10_000 { 2 } else { 3 };
         by_bytes(Bytes { starts, bytes: BYTES }, longest, |source| self.compare(source));
         println!("all strings of up to {longest} of 16 bytes behind each of five beginnings");
@@ -201,7 +204,7 @@ impl Comparison {
     fn as_loaded(&self, source: &[u8], expected: Result<Name, Refusal>) -> Option<Mismatch> {
         let read = answers::read(source).ok().filter(|_| is_accepted(source))?;
         let told = expected.map(|[start, length]| String::from_utf8_lossy(&source[start..start + length]).into_owned());
-        differ("name", read.name().as_str().to_string(), told.unwrap_or_default())
+        differ("name", read.name().to_string(), told.unwrap_or_default())
     }
 
     fn finish(mut self, enough: bool) -> ExitCode {

@@ -2,7 +2,7 @@
 use common::prng::Prng;
 use common::refusal::Refusal;
 use common::unicode::{FAULTS, MARK};
-use common::vocabulary::{NO_NAMES, ORDINARY_NAMES, RESERVED, name};
+use common::vocabulary::{Edition, NO_NAMES, ORDINARY_NAMES, RESERVED, name};
 
 const LONGEST: usize = 65_535;
 
@@ -47,6 +47,20 @@ pub fn readings() -> Vec<Reading> {
         ([ending(LONGEST), vec![b'\xff'; 5_000]].concat(), Ok([LONGEST - 2, 1])),
         (ending(LONGEST + 1), six),
         ([ending(LONGEST + 1), b" ".to_vec()].concat(), six),
+        // edition 0 2
+        (b"(surface 0 2)(module m)".to_vec(), named),
+        (b"(surface 0 2)(module m)(postulate a (arrow".to_vec(), named),
+        (b"(surface 0 2)(module arrow)".to_vec(), Err(Refusal::at(3, 21))),
+        (b"(surface 0 2)(module arrow".to_vec(), Err(Refusal::at(3, 21))),
+        (b"(surface 0 2)(module arrow]".to_vec(), one(26)),
+        (b"(surface 0 2)(module arrows)".to_vec(), Ok([21, 6])),
+        (b"(surface 0 1)(module arrow)".to_vec(), Ok([21, 5])),
+        (b"(surface 0 2)".to_vec(), one(13)),
+        (b"(surface 0 2) \xff".to_vec(), one(14)),
+        (b"(surface 0 02)(module m)".to_vec(), one(11)),
+        (b"(surface 0 3)(module m)".to_vec(), Err(Refusal::nowhere(2))),
+        (b"(surface 1 2)(module m)".to_vec(), Err(Refusal::nowhere(2))),
+        (b"(surface 0 20)(module m)".to_vec(), Err(Refusal::nowhere(2))),
     ]
 }
 
@@ -90,12 +104,14 @@ pub fn tail(prng: &mut Prng) -> Vec<u8> {
 
 /// The nine tokens, perhaps one of them another, one left out or one twice.
 fn tokens(prng: &mut Prng) -> Vec<String> {
-    let mut tokens = ["(", "surface", "0", "1", ")", "(", "module", "m", ")"].map(str::to_string).to_vec();
+    let [major, minor] = prng.pick(&Edition::BOTH).version();
+    let mut tokens = ["(", "surface", major, minor, ")", "(", "module", "m", ")"].map(str::to_string).to_vec();
     let length = *prng.pick(&[1, 2, 8, 16, 17, 40, 300]);
     tokens[7] = match prng.below(10) {
         0 => prng.pick(&RESERVED).to_string(),
         1 => prng.pick(&NO_NAMES).to_string(),
-        2..=4 => prng.pick(&ORDINARY_NAMES).to_string(),
+        2 => String::from("arrow"),
+        3 | 4 => prng.pick(&ORDINARY_NAMES).to_string(),
         5 | 6 => name(prng, length),
         _ => String::from("m"),
     };

@@ -1,10 +1,10 @@
 //! What a source needs, counted on its trees, and which of its tables reading finds full first. Neither tables nor frames
 //! play a part here.
 use super::order::Limits;
-use answers::rows::surface_rows;
+use answers::Read;
+use answers::rows::{roots, surface_rows};
 use common::modules::{Declaration, Module, Term};
 use common::refusal::Refusal;
-use hott_kernel::surface::SurfaceModule;
 
 /// The rows of a declaration, and the frames of its type and of its body.
 #[derive(Clone, Debug, Eq, PartialEq)]
@@ -28,10 +28,10 @@ impl Needs {
     }
 
     /// Of the trees that the Rust has read.
-    pub fn of_rust(module: &SurfaceModule) -> Self {
+    pub fn of_rust(read: &Read) -> Self {
         let (mut sizes, mut frames) = (Vec::new(), Vec::new());
         // a row's children stand before it
-        for row in surface_rows(module) {
+        for row in surface_rows(read) {
             let size: usize = row.children.iter().map(|child| sizes[*child]).sum();
             sizes.push(1 + size);
             let inside: Option<usize> = row.children.iter().map(|child| frames[*child]).max();
@@ -41,10 +41,7 @@ impl Needs {
             rows: roots.iter().map(|root| sizes[*root]).sum(),
             frames: roots.iter().map(|root| frames[*root]).collect(),
         };
-        let declarations = module.declarations().iter();
-        let roots =
-            declarations.map(|it| [Some(it.ty()), it.body()].into_iter().flatten().map(|id| id.index()).collect());
-        Self(roots.map(declared).collect())
+        Self(roots(read).into_iter().map(declared).collect())
     }
 
     pub fn rows(&self) -> usize {

@@ -1,9 +1,10 @@
 //! Document 01's reading order as a recursive reader that keeps places only: where 7, 8 and 9 are met, where a term
-//! starts, and where its atom or binder stands. Tokens and names are judged by the Rust's own functions.
+//! starts, and where its atom or binder stands. Tokens and names are judged by the Rust's own functions. Both editions are read as
+//! document 02 has them.
 use answers::token_at;
 use common::refusal::Refusal;
 use common::tokens::{Kind, Token};
-use common::vocabulary::{FORMS, LEAVES};
+use common::vocabulary::{Edition, LEAVES};
 use hott_kernel::ParserParts;
 use std::ops::Range;
 
@@ -42,7 +43,7 @@ type Read<T> = Result<T, Refusal>;
 /// Reads a text that does not start with the mark.
 pub fn read(text: &str, limits: Limits) -> Reading {
     let done = Reading { refusal: None, rows: Vec::new(), names: Vec::new(), opened: 0 };
-    let mut reader = Reader { text, at: 0, limits, done };
+    let mut reader = Reader { text, at: 0, edition: Edition::First, limits, done };
     let refusal = reader.module().err();
     Reading { refusal, ..reader.done }
 }
@@ -50,6 +51,8 @@ pub fn read(text: &str, limits: Limits) -> Reading {
 struct Reader<'a> {
     text: &'a str,
     at: usize,
+    /// That of the head, once it is read.
+    edition: Edition,
     limits: Limits,
     done: Reading,
 }
@@ -60,9 +63,8 @@ impl<'a> Reader<'a> {
         self.word("surface")?;
         let version = [self.numeral()?, self.numeral()?];
         self.one(Kind::RParen)?;
-        if version.map(|span| &self.text[span]) != ["0", "1"] {
-            return Err(Refusal::nowhere(2));
-        }
+        let version = version.map(|span| &self.text[span]);
+        self.edition = Edition::of(version).ok_or(Refusal::nowhere(2))?;
         self.one(Kind::LParen)?;
         self.word("module")?;
         self.name()?;
@@ -114,7 +116,7 @@ impl<'a> Reader<'a> {
             "ref" => Some(self.name()?),
             "universe" => Some(self.numeral()?),
             word => {
-                let form = FORMS.iter().find(|form| form.word == word).ok_or(malformed(tag))?;
+                let form = self.edition.form(word).ok_or(malformed(tag))?;
                 let binder = if form.binds { Some(self.name()?) } else { None };
                 if open == FRAMES {
                     return Err(Refusal::nowhere(7));
@@ -161,10 +163,11 @@ impl<'a> Reader<'a> {
 
     fn name(&mut self) -> Read<Span> {
         let token = self.one(Kind::Atom)?;
-        if ParserParts::is_reserved(self.bytes(token)) {
+        let word = self.bytes(token);
+        if ParserParts::is_reserved(word) || self.edition.reserves_arrow(word) {
             return Err(Refusal::at(3, token.start));
         }
-        if ParserParts::is_identifier(self.bytes(token)) { Ok(token.start..token.end) } else { Err(malformed(token)) }
+        if ParserParts::is_identifier(word) { Ok(token.start..token.end) } else { Err(malformed(token)) }
     }
 
     fn bytes(&self, atom: Token) -> &'a str {

@@ -6,7 +6,7 @@ use super::expected::{Content, Reference};
 use super::generated::{module, printed, small};
 use super::sizes::{enough, random};
 use super::station::{Loaded, same};
-use super::tables::{Rubbish, Sizes, Tables};
+use super::tables::{LISTING, Rubbish, Sizes, Tables};
 use common::alter::alter;
 use common::damage::damaged;
 use common::modules::{Module, Shape, Term, generate};
@@ -14,6 +14,7 @@ use common::prng::Prng;
 use common::refusal::Refusal;
 use common::renaming::rename_binders;
 use common::tally::{Mismatch, Tally, differ};
+use common::vocabulary::Edition;
 use std::ops::RangeInclusive;
 use std::process::ExitCode;
 
@@ -26,6 +27,8 @@ pub fn run(count: usize, seed: u64) -> ExitCode {
     let mut prng = Prng::new(seed);
     let mut tally = Tally::default();
     let mut answers = [0; 5];
+    let mut across = [0; 2];
+    written_out(&mut tally);
     for at in 0..count {
         let [left, right] = pair(at, &mut prng);
         let mut sources = [&left, &right].map(|module| printed(module, &mut prng));
@@ -34,12 +37,16 @@ pub fn run(count: usize, seed: u64) -> ExitCode {
         if let Some(which) = damage {
             sources[which] = damaged(&sources[which], &mut prng);
         }
+        let editions = [left.edition, right.edition];
         let question = Question { references: [Reference::new(&sources[0]), Reference::new(&sources[1])], left, right };
         let sizes = question.sizes(&mut prng);
         let expected = question.expected(sizes);
         if damage.is_none() || expected.class != 0 {
             let found = same([&sources[0], &sources[1]], sizes, *prng.pick(&Rubbish::ALL));
             answers[expected.sort()] += 1;
+            if expected.class == 0 && editions[0] != editions[1] {
+                across[usize::from(expected.sort() > 0)] += 1;
+            }
             let both = [&sources[0][..], b"\n", &sources[1]].concat();
             tally.count(&both, expected.compare(sizes, &found));
         }
@@ -49,10 +56,45 @@ pub fn run(count: usize, seed: u64) -> ExitCode {
     }
     println!("same {}, different at 0 {}, further on {}", answers[0], answers[1], answers[2]);
     println!("first refused {}, second refused {}", answers[3], answers[4]);
-    if count >= ENOUGH && answers.contains(&0) {
+    println!("one source of each edition: same {}, different {}", across[0], across[1]);
+    if count >= ENOUGH && (answers.contains(&0) || across.contains(&0)) {
         tally.broken("some answer never came");
     }
     tally.finish()
+}
+
+/// "Where two sources are compared for the same core, of either edition, an arrow agrees in form with a pi, and the condition on
+/// references does the rest": two types, each behind its edition's head, and whether they agree.
+const ARROWS: [([&str; 2], bool); 12] = [
+    (["{2}(arrow nat nat)", "{H}(pi x nat nat)"], true),
+    (["{2}(arrow nat nat)", "{2}(pi _ nat nat)"], true),
+    (["{2}(arrow nat nat)", "{H}(sigma x nat nat)"], false),
+    (["{2}(arrow nat nat)", "{H}(pi x nat unit)"], false),
+    (["{2}(lam x (arrow nat (ref x)))", "{H}(lam y (pi z nat (ref y)))"], true),
+    (["{2}(lam x (arrow nat (ref x)))", "{H}(lam x (pi x nat (ref x)))"], false),
+    (["{2}(lam x (arrow (ref x) nat))", "{H}(lam x (pi x (ref x) nat))"], true),
+    (["{2}(pi x nat (arrow nat (ref x)))", "{H}(pi x nat (pi y nat (ref y)))"], false),
+    (["{2}(pi x nat (arrow nat (ref x)))", "{2}(arrow nat (pi x nat (ref x)))"], false),
+    (["{2}(arrow (arrow nat nat) nat)", "{2}(arrow nat (arrow nat nat))"], false),
+    (["{2}(arrow nat (ref g))", "{H}(pi x nat (ref g))"], true),
+    (["{2}(arrow nat (ref g))", "{H}(pi g nat (ref g))"], false),
+];
+
+fn written_out(tally: &mut Tally) {
+    for (types, agree) in ARROWS {
+        let [left, right] = types.map(|ty| {
+            let (head, ty) = ty.split_at(3);
+            let edition = if head == "{2}" { Edition::Second } else { Edition::First };
+            format!("{}(postulate g nat)(postulate a {ty})", edition.head()).into_bytes()
+        });
+        for sources in [[&left, &right], [&right, &left]] {
+            let found = same(sources.map(|source| &source[..]), [LISTING, LISTING], Rubbish::Mixed);
+            let told = if agree { (0, [0, 0, 0]) } else { (0, [1, 1, 0]) };
+            let both = [&sources[0][..], b"\n", sources[1]].concat();
+            let found = (found[0].class, found[0].answer);
+            tally.count(&both, differ("answer", format!("{told:?}"), format!("{found:?}")));
+        }
+    }
 }
 
 /// Two modules; most of the second ones come from the first, with other binders.

@@ -2,7 +2,7 @@
 //! argument that a form has.
 use common::modules::{Declaration, Kind, Module, Term};
 use common::prng::Prng;
-use common::vocabulary::{BINDING, FORMS, LEAVES};
+use common::vocabulary::{BINDING, Edition, FORMS, LEAVES};
 
 const NAMES: [&str; 5] = ["_", "x", "y", "xy", "x_"];
 
@@ -10,13 +10,15 @@ const NAMES: [&str; 5] = ["_", "x", "y", "xy", "x_"];
 pub fn scoped(prng: &mut Prng) -> Module {
     let names = NAMES[..prng.between(1, NAMES.len())].to_vec();
     let unknown = if prng.chance(10) { 10 } else { 0 };
-    let mut maker = Maker { names, unknown, globals: Vec::new(), locals: Vec::new(), budget: 0, prng };
+    let edition = *prng.pick(&Edition::BOTH);
+    let mut maker = Maker { edition, names, unknown, globals: Vec::new(), locals: Vec::new(), budget: 0, prng };
     let declarations = (0..maker.prng.between(1, 7)).map(|_| maker.declaration()).collect();
-    Module { name: maker.name(), declarations }
+    Module { edition, name: maker.name(), declarations }
 }
 
 struct Maker<'a> {
     prng: &'a mut Prng,
+    edition: Edition,
     names: Vec<&'static str>,
     /// Percentage of names that may not be in scope, or be declared before.
     unknown: usize,
@@ -56,7 +58,7 @@ impl Maker<'_> {
             return self.small_term();
         }
         let from = if self.prng.chance(60) { BINDING } else { FORMS.len() };
-        let form = &FORMS[self.prng.below(from)];
+        let form = self.edition.any_form(from, self.prng);
         let binder = form.binds.then(|| self.name());
         let mut args = Vec::new();
         for at in 0..form.arity {
@@ -64,7 +66,7 @@ impl Maker<'_> {
             let covering = binder.as_ref().filter(|_| at + 1 == form.arity);
             self.locals.extend(covering.cloned());
             // a large domain would leave nothing for what the binder covers
-            let small = binder.is_some() && covering.is_none() && self.prng.chance(50);
+            let small = form.counts() && at + 1 < form.arity && self.prng.chance(50);
             args.push(if small { self.small_term() } else { self.term(depth - 1) });
             self.locals.truncate(self.locals.len() - usize::from(covering.is_some()));
         }

@@ -1,5 +1,5 @@
 //! All short continuations of some beginnings: by tokens as far as reading goes on, and by bytes.
-use common::vocabulary::HEAD;
+use common::vocabulary::{HEAD, HEAD_0_2};
 
 /// The beginnings and the words behind them.
 pub struct Tokens<'a> {
@@ -15,7 +15,7 @@ pub struct Bytes<'a> {
 
 /// Of the surface language.
 pub fn tokens() -> Tokens<'static> {
-    const WORDS: [&str; 16] = [
+    const WORDS: [&str; 18] = [
         "(",
         ")",
         "surface",
@@ -23,6 +23,7 @@ pub fn tokens() -> Tokens<'static> {
         "postulate",
         "opaque",
         "pi",
+        "arrow",
         "lam",
         "app",
         "ref",
@@ -32,12 +33,15 @@ pub fn tokens() -> Tokens<'static> {
         "y",
         "0",
         "1",
+        "2",
     ];
     let starts = vec![
         String::new(),
         HEAD.to_string(),
         format!("{HEAD}(postulate x"),
         format!("{HEAD}(postulate x nat)(opaque y (pi x nat (ref x))"),
+        String::from("(surface 0 2)(module"),
+        format!("{HEAD_0_2}(postulate x nat)(opaque y (arrow"),
     ];
     Tokens { starts, words: &WORDS }
 }

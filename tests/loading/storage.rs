@@ -22,7 +22,7 @@ use common::modules::{Module, Shape, generate};
 use common::prng::Prng;
 use common::refusal::Refusal;
 use common::tally::{Mismatch, Tally, differ};
-use common::vocabulary::HEAD;
+use common::vocabulary::{HEAD, HEAD_0_2};
 use std::process::ExitCode;
 
 pub const COUNT: usize = 20_000;
@@ -58,6 +58,8 @@ fn readings() -> Vec<(Vec<u8>, Result<Figures, Refusal>)> {
     let head = |rest: &str| format!("{HEAD}{rest}").into_bytes();
     let around = |forms: usize, inner: &str| format!("{}{inner}{}", "(fst ".repeat(forms), ")".repeat(forms));
     let postulate = |ty: &str| head(&format!("(postulate a {ty})"));
+    let second = |ty: &str| format!("{HEAD_0_2}(postulate a {ty})").into_bytes();
+    let arrows = |forms: usize| format!("{}nat{}", "(arrow nat ".repeat(forms), ")".repeat(forms));
     let one = |at| Err(Refusal::at(1, at));
     let (two, six, seven) = (Err(Refusal::nowhere(2)), Err(Refusal::nowhere(6)), Err(Refusal::nowhere(7)));
     let padded = |length: usize| [HEAD.as_bytes().to_vec(), vec![b' '; length - HEAD.len()]].concat();
@@ -91,6 +93,14 @@ fn readings() -> Vec<(Vec<u8>, Result<Figures, Refusal>)> {
         (head(&format!("(postulate a {}(fst]", "(fst ".repeat(FRAMES))), one(2_600)),
         (head(&format!("(postulate a {}(pi nat", "(fst ".repeat(FRAMES))), Err(Refusal::at(3, 2_600))),
         (head(&format!("(postulate a {}(bogus", "(fst ".repeat(FRAMES))), one(2_597)),
+        // edition 0 2: an arrow is a row and a frame
+        (second("(arrow nat nat)"), Ok([3, 1, 1])),
+        (second("(arrow (arrow nat nat) (fst (arrow nat (ref q))))"), Ok([8, 1, 3])),
+        (second(&arrows(FRAMES)), Ok([1_025, 1, 512])),
+        (second(&arrows(FRAMES + 1)), seven),
+        (second("(ref arrow)"), Err(Refusal::at(3, 41))),
+        (postulate("(ref arrow)"), Ok([1, 1, 0])),
+        (postulate("(arrow nat nat)"), one(37)),
         // more than the listing lends
         (head(&format!("(opaque a {} {})", around(512, "star"), around(511, "star"))), Ok([1_025, 1, 512])),
         (head(&"(postulate a nat)".repeat(257)), Ok([257, 257, 0])),
@@ -103,6 +113,8 @@ fn readings() -> Vec<(Vec<u8>, Result<Figures, Refusal>)> {
         (head("(postulate a nat"), one(39)),
         (head("(postulate a nat) ]"), one(41)),
         (b"(surface 1 0) ]".to_vec(), two),
+        (b"(surface 0 3) ]".to_vec(), two),
+        (b"(surface 0 2) ]".to_vec(), one(14)),
         (b"(surface 1 0) \xff".to_vec(), one(14)),
         (head("(postulate nat nat)"), Err(Refusal::at(3, 34))),
         (head("(postulate b (ref q))(postulate b (pi nat"), Err(Refusal::at(3, 61))),
@@ -203,7 +215,7 @@ impl Comparison {
             self.compare(source, None);
             Reference::new(source).is_open()
         });
-        println!("all sources of up to {length} tokens behind each of four beginnings");
+        println!("all sources of up to {length} tokens behind each of six beginnings");
         let longest = if count < MANY { 1 } else { 2 };
         by_bytes(short::bytes(), longest, |source| self.compare(source, None));
         println!("all strings of up to {longest} of 16 bytes behind each of five beginnings");

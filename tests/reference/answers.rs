@@ -1,5 +1,7 @@
-//! The Rust's answers: loading as values and as lines of text, core text, tokens, words, UTF-8.
+//! The Rust's answers: loading as values and as lines of text, core text, tokens, words, UTF-8. Of a source whose head is 0 2 they
+//! are its answers to the 0 1 spelling of it, by `editions`.
 //! Only the public interface of the reference library is used, so that rows are those that a caller sees.
+mod editions;
 pub mod rows;
 
 use common::refusal::Refusal;
@@ -14,16 +16,38 @@ use hott_kernel::{Lexed, ParserParts};
 
 /// `refused C`, `refused C at P`, or document 01's listing with its lines joined by `|`.
 pub fn answer(source: &[u8]) -> String {
-    let listing = |read: SurfaceModule| Ok(rows::listing(&read, &resolve(&read)?));
+    let listing = |read: Read| Ok(rows::listing(&read, &resolve(&read)?));
     read(source).and_then(listing).unwrap_or_else(|refusal| refusal.to_string())
 }
 
-pub fn read(source: &[u8]) -> Result<SurfaceModule, Refusal> {
-    parse_surface(source).map_err(refusal)
+/// A source that was read.
+pub struct Read {
+    module: SurfaceModule,
+    /// The binder that stands for none: the pi that has it is an arrow of the source.
+    arrow: Option<[u8; 2]>,
 }
 
-pub fn resolve(read: &SurfaceModule) -> Result<Module, Refusal> {
-    elaborate_surface(read).map_err(refusal)
+impl Read {
+    /// The module's name.
+    pub fn name(&self) -> &str {
+        self.module.name().as_str()
+    }
+}
+
+/// Whether the head of a source is 0 2, so that the Rust is not asked about it as it is.
+pub fn is_second(source: &[u8]) -> bool {
+    editions::spelt(source).is_some()
+}
+
+pub fn read(source: &[u8]) -> Result<Read, Refusal> {
+    let spelling = editions::spelt(source);
+    let given = spelling.as_ref().map_or(source, |spelling| &spelling.source);
+    let module = parse_surface(given).map_err(refusal)?;
+    Ok(Read { module, arrow: spelling.map(|spelling| spelling.binder) })
+}
+
+pub fn resolve(read: &Read) -> Result<Module, Refusal> {
+    elaborate_surface(&read.module).map_err(refusal)
 }
 
 fn refusal(error: SurfaceError) -> Refusal {

@@ -32,7 +32,8 @@ fn main() {
         answer,
         sources::loading::fill,
         &[
-            "Sources with the Rust's answer to loading (parse_surface, then elaborate_surface).",
+            "Sources with the Rust's answer to loading (parse_surface, then elaborate_surface); of one whose head is 0 2 its answer",
+            "to the 0 1 spelling (tests/reference/editions.rs), since the Rust knows 0 1 alone.",
             "ANSWER: refused C, or refused C at P, with document 01's class numbers; else document 01's listing,",
             "its lines joined by |.",
         ],

@@ -1,5 +1,6 @@
 //! The rows of a module as document 01 lists them, and the agreement of surface rows with core rows.
-use hott_kernel::surface::{SurfaceModule, SurfaceTerm, SurfaceTermId};
+use crate::Read;
+use hott_kernel::surface::{SurfaceTerm, SurfaceTermId};
 use hott_kernel::syntax::{Declaration, Module, Term, TermId};
 
 pub struct Row<Id> {
@@ -21,7 +22,7 @@ pub struct Record<'a> {
 }
 
 /// Document 01's listing with its lines joined by `|`.
-pub fn listing(read: &SurfaceModule, module: &Module) -> String {
+pub fn listing(read: &Read, module: &Module) -> String {
     let rows = core_rows(module);
     check_rows(&surface_rows(read), &rows);
     let mut lines = vec![format!("nodes {} declarations {}", rows.len(), module.declarations().len())];
@@ -51,7 +52,8 @@ fn record(declaration: &Declaration) -> Record<'_> {
     Record { word, name: declaration.name(), ty, body }
 }
 
-/// "Core row k has surface row k's kind and children .., and a universe its [digits]; ref becomes var .. or global".
+/// "Core row k has surface row k's kind and children .., and a universe its [digits]; ref becomes var .. or global"; of an
+/// arrow "its core row is a pi".
 fn check_rows(surface: &[Row<usize>], core: &[Row<usize>]) {
     assert_eq!(surface.len(), core.len(), "as many core rows as surface rows");
     for (number, (read, resolved)) in surface.iter().zip(core).enumerate() {
@@ -59,7 +61,8 @@ fn check_rows(surface: &[Row<usize>], core: &[Row<usize>]) {
         if read.word == "ref" {
             assert!(["var", "global"].contains(&resolved.word), "ref of row {number}");
         } else {
-            assert_eq!(read.word, resolved.word, "kind of row {number}");
+            let word = if read.word == "arrow" { "pi" } else { read.word };
+            assert_eq!(word, resolved.word, "kind of row {number}");
             assert_eq!(read.detail, resolved.detail, "digits of row {number}");
         }
     }
@@ -72,11 +75,31 @@ pub fn core_rows(module: &Module) -> Vec<Row<usize>> {
     reached(module.arena().len(), roots.flatten().collect(), TermId::index, get)
 }
 
-pub fn surface_rows(module: &SurfaceModule) -> Vec<Row<usize>> {
-    let declarations = module.declarations().iter();
-    let roots = declarations.flat_map(|declaration| [Some(declaration.ty()), declaration.body()]);
+/// The rows of a source. In the Rust's module an arrow is a pi, which its binder tells.
+pub fn surface_rows(read: &Read) -> Vec<Row<usize>> {
+    let module = &read.module;
+    let roots = parts(read).into_iter().flatten().collect();
     let get = |id| surface_row(module.arena().get(id).expect("a row of the arena"));
-    reached(module.arena().len(), roots.flatten().collect(), SurfaceTermId::index, get)
+    let mut rows = reached(module.arena().len(), roots, SurfaceTermId::index, get);
+    let is_arrow = |row: &&mut Row<usize>| {
+        row.word == "pi" && row.binder.as_ref().map(String::as_bytes) == read.arrow.as_ref().map(|name| &name[..])
+    };
+    for row in rows.iter_mut().filter(is_arrow) {
+        (row.word, row.binder) = ("arrow", None);
+    }
+    rows
+}
+
+/// For each declaration of a source the rows of its type and of its body.
+pub fn roots(read: &Read) -> Vec<Vec<usize>> {
+    parts(read).into_iter().map(|parts| parts.into_iter().map(SurfaceTermId::index).collect()).collect()
+}
+
+fn parts(read: &Read) -> Vec<Vec<SurfaceTermId>> {
+    let declarations = read.module.declarations().iter();
+    declarations
+        .map(|declaration| [Some(declaration.ty()), declaration.body()].into_iter().flatten().collect())
+        .collect()
 }
 
 /// The rows by number, found by walking down from types and bodies: no row is left out, none is met twice.

@@ -68,7 +68,12 @@ impl Module<'_> {
             text.extend(word.bytes());
             return;
         }
-        let shown = if word == "var" && is("var-printed-as-global") { "global" } else { word };
+        let arrow = word == "pi" && self.bytes[row[OFFSET] as usize + 1..].starts_with(b"arrow");
+        let shown = match fault() {
+            "var-printed-as-global" if word == "var" => "global",
+            "arrow-in-the-text" if arrow => "arrow",
+            _ => word,
+        };
         text.extend(format!("({shown} ").bytes());
         if numeral {
             text.extend(self.numeral(word, row));

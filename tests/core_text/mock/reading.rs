@@ -4,7 +4,7 @@ use crate::core_text::tokens::{Kind, Token};
 use crate::loading::tables::{OFFSET, ROW};
 use common::fault::{fault, is};
 use common::refusal::Refusal;
-use common::vocabulary::{DECLARATION_KINDS, FORMS, KINDS, LEAVES, RESERVED, kind_number};
+use common::vocabulary::{DECLARATION_KINDS, FORMS, Form, KINDS, LEAVES, RESERVED, kind_number};
 
 /// The words of rows and records, and for each declaration its name's string.
 #[derive(Default)]
@@ -83,7 +83,8 @@ impl Reader<'_> {
         self.opens("format")?;
         let format = [self.numeral()?, self.numeral()?];
         self.expect(Kind::RParen)?;
-        let format_fits = self.is_version(format) || is("format-version-not-compared");
+        let second = is("format-0-2-taken") && self.is(format[0], "0") && self.is(format[1], "2");
+        let format_fits = self.is_version(format) || second || is("format-version-not-compared");
         let two = match fault() {
             "core-version-with-offset" => Refusal::at(2, format[0].start),
             _ => Refusal::nowhere(2),
@@ -224,7 +225,9 @@ impl Reader<'_> {
 
     /// Opens the frame of this number.
     fn frame(&mut self, parenthesis: Token, tag: Token, number: usize) -> Result<Frame> {
-        let form = FORMS.iter().find(|form| self.is(tag, form.word)).ok_or(malformed(tag))?;
+        let arrow = is("arrow-taken-in-core-text") && self.is(tag, "arrow");
+        let word = |form: &&Form| self.is(tag, form.word) || arrow && form.word == "pi";
+        let form = FORMS.iter().find(word).ok_or(malformed(tag))?;
         let most = match fault() {
             "core-seven-one-early" => 511,
             "core-seven-one-late" => 513,

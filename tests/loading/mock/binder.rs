@@ -3,7 +3,7 @@ use super::Module;
 use crate::loading::tables::{RECORD, ROW};
 use common::fault::{fault, is};
 use common::refusal::Refusal;
-use common::vocabulary::{FORMS, KINDS};
+use common::vocabulary::{Edition, FORMS, Form, KINDS};
 
 /// A count and a row, or a place, or 12.
 pub fn answer(source: &[u8], module: &Module, row: usize) -> Result<Vec<usize>, Refusal> {
@@ -42,14 +42,18 @@ fn binds(module: &Module, row: usize) -> bool {
     FORMS.iter().any(|form| form.binds && form.word == word(module, row))
 }
 
+/// The form of a row, of whichever edition.
+fn form(module: &Module, row: usize) -> Option<&'static Form> {
+    Edition::Second.form(word(module, row))
+}
+
 fn name<'a>(source: &'a [u8], module: &Module, row: usize) -> &'a [u8] {
     &source[words(module, row)[1] as usize..][..words(module, row)[2] as usize]
 }
 
 /// The rows of a form's arguments; behind the name where the form binds one.
 fn arguments(module: &Module, row: usize) -> &[u32] {
-    let form = FORMS.iter().find(|form| form.word == word(module, row));
-    form.map_or(&[], |form| &words(module, row)[if form.binds { 3 } else { 1 }..][..form.arity])
+    form(module, row).map_or(&[], |form| &words(module, row)[if form.binds { 3 } else { 1 }..][..form.arity])
 }
 
 /// The form that a row is an argument of, and whether it is the last one.
@@ -72,6 +76,10 @@ fn local(source: &[u8], module: &Module, row: usize, wanted: &[u8]) -> Option<(u
             "sigma" => is("binder-sigma-passed-over"),
             _ => false,
         };
+        if word(module, form) == "arrow" {
+            found.extend((last && is("binder-is-an-arrow")).then_some((count, form)));
+            count += arrow_counts(last);
+        }
         if !binds(module, form) || passed_over {
             continue;
         }
@@ -94,6 +102,15 @@ fn local(source: &[u8], module: &Module, row: usize, wanted: &[u8]) -> Option<(u
         "binder-count-from-outside" => (count - 1 - inside, form),
         _ => (inside, form),
     })
+}
+
+/// For how many binders an arrow counts, in its codomain or not.
+fn arrow_counts(codomain: bool) -> usize {
+    match fault() {
+        "binder-arrow-not-counted" => 0,
+        "binder-arrow-counts-in-its-domain" => 1,
+        _ => usize::from(codomain),
+    }
 }
 
 /// The place of the earlier declaration with a name: its rows, and so its own, stand before the row.

@@ -3,7 +3,7 @@ use crate::faults;
 use common::fault::{fault, is};
 use common::refusal::Refusal;
 use common::tokens::{Kind, Token};
-use common::vocabulary::RESERVED;
+use common::vocabulary::{ARROW, RESERVED};
 
 const LONGEST: usize = 65_535;
 const MARK: &[u8] = b"\xef\xbb\xbf";
@@ -91,13 +91,15 @@ fn head(source: &[u8], mut at: usize) -> Result<Head, Refusal> {
     let minor = next(Kind::Atom, None)?;
     numeral(source, minor)?;
     next(Kind::RParen, None)?;
-    if text(source, major) != b"0" || text(source, minor) != b"1" {
+    let second = text(source, minor) == b"2" && !is("head-two-for-0-2");
+    if text(source, major) != b"0" || text(source, minor) != b"1" && !second {
         return Err(Refusal::nowhere(2));
     }
     next(Kind::LParen, None)?;
     next(Kind::Atom, Some("module"))?;
     let name = next(Kind::Atom, None)?;
-    identifier(source, name)?;
+    let arrows = second && !is("head-arrow-taken") || is("head-arrow-reserved-in-0-1");
+    identifier(source, name, arrows)?;
     let close = next(Kind::RParen, None)?;
     Ok(Head { name, end: close.end })
 }
@@ -112,10 +114,12 @@ fn numeral(source: &[u8], token: Token) -> Result<(), Refusal> {
     if known { Ok(()) } else { Err(Refusal::at(1, token.start)) }
 }
 
-fn identifier(source: &[u8], token: Token) -> Result<(), Refusal> {
+/// `arrows`: whether `arrow` is reserved.
+fn identifier(source: &[u8], token: Token, arrows: bool) -> Result<(), Refusal> {
     let name = text(source, token);
+    let reserved = RESERVED.iter().any(|word| word.as_bytes() == name) && !is("head-reserved-taken");
     let letters = name.iter().all(|byte| byte.is_ascii_alphanumeric() || *byte == b'_');
-    if RESERVED.iter().any(|word| word.as_bytes() == name) && !is("head-reserved-taken") {
+    if reserved || arrows && name == ARROW.word.as_bytes() {
         Err(Refusal::at(3, token.start))
     } else if letters && !name[0].is_ascii_digit() {
         Ok(())

@@ -77,6 +77,11 @@ fn text(source: &[u8], loaded: &Loaded) -> String {
     if is("no-newline-at-the-end") { text } else { text + "\n" }
 }
 
+/// Whether a row was read as an arrow.
+fn is_arrow(row: &str, loaded: &Loaded) -> bool {
+    row.parse().is_ok_and(|row: usize| loaded.tables.surface[row * ROW] == 25)
+}
+
 fn mistaken(line: &str, loaded: &Loaded) -> String {
     let words: Vec<&str> = line.split(' ').collect();
     match (fault(), &words[..]) {
@@ -85,6 +90,7 @@ fn mistaken(line: &str, loaded: &Loaded) -> String {
             format!("{at} universe {}", digits.parse().unwrap_or(u32::MAX))
         }
         ("body-of-a-postulate", [_, "postulate", ..]) => format!("{line} 0"),
+        ("arrow-printed", [at, "pi", ..]) if is_arrow(at, loaded) => line.replacen("pi", "arrow", 1),
         ("binder-printed", [at, "lam", body]) => format!("{at} lam x {body}"),
         ("offset-of-nowhere", ["refused", _]) if loaded.answer[0] == 0 => format!("{line} at 0"),
         _ => line.to_string(),

@@ -5,7 +5,7 @@ use crate::loading::tables::{RECORD, ROW, Tables};
 use common::fault::{fault, is};
 use common::refusal::Refusal;
 use common::tokens::{Kind, Token};
-use common::vocabulary::{DECLARATION_KINDS, FORMS, KINDS, LEAVES, RESERVED, kind_number};
+use common::vocabulary::{ARROW, DECLARATION_KINDS, Edition, FORMS, KINDS, LEAVES, RESERVED, kind_number};
 
 /// A completed term. Children are places in the list of nodes.
 pub struct Node {
@@ -31,6 +31,8 @@ pub struct Read {
     pub nodes: Vec<Node>,
     pub declared: Vec<Declared>,
     pub module_name: Option<Token>,
+    /// Whether `arrow` is reserved, and a form.
+    arrows: bool,
     /// Whether a frame was opened.
     pub forms: bool,
 }
@@ -76,26 +78,7 @@ impl<'a> Reader<'a> {
     }
 
     pub fn module(&mut self) -> Result<()> {
-        self.expect(Kind::LParen)?;
-        self.word("surface")?;
-        let major = self.numeral()?;
-        let minor = self.numeral()?;
-        let supported = self.is(major, "0") && self.is(minor, "1") || is("version-not-compared");
-        let two = match fault() {
-            "version-with-offset" => Refusal::at(2, major.start),
-            _ => Refusal::nowhere(2),
-        };
-        if !supported && is("version-before-parenthesis") {
-            return Err(two);
-        }
-        self.expect(Kind::RParen)?;
-        if !supported {
-            return Err(two);
-        }
-        self.expect(Kind::LParen)?;
-        self.word("module")?;
-        self.read.module_name = Some(self.name()?);
-        self.expect(Kind::RParen)?;
+        self.head()?;
         loop {
             let full = self.read.declared.len() == self.records;
             self.full_if("nine-at-the-end-of-the-source", 9, full)?;
@@ -113,6 +96,39 @@ impl<'a> Reader<'a> {
                 _ => return Err(malformed(token)),
             }
         }
+    }
+
+    fn head(&mut self) -> Result<()> {
+        self.expect(Kind::LParen)?;
+        self.word("surface")?;
+        let major = self.numeral()?;
+        let minor = self.numeral()?;
+        let is_version = |edition: &Edition| {
+            let [first, second] = edition.version();
+            self.is(major, first) && self.is(minor, second)
+        };
+        let edition = Edition::BOTH.into_iter().find(is_version);
+        let edition = if is("two-for-0-2") { edition.filter(|edition| *edition == Edition::First) } else { edition };
+        let supported = edition.is_some() || is("version-not-compared");
+        let two = match fault() {
+            "version-with-offset" => Refusal::at(2, major.start),
+            _ => Refusal::nowhere(2),
+        };
+        if !supported && is("version-before-parenthesis") {
+            return Err(two);
+        }
+        self.expect(Kind::RParen)?;
+        if !supported {
+            return Err(two);
+        }
+        self.expect(Kind::LParen)?;
+        self.word("module")?;
+        let second = edition == Some(Edition::Second);
+        self.read.arrows = second && !is("arrow-free-as-a-module-name") || is("arrow-a-form-in-0-1");
+        self.read.module_name = Some(self.name()?);
+        self.read.arrows |= second;
+        self.expect(Kind::RParen)?;
+        Ok(())
     }
 
     fn declaration(&mut self, full: bool) -> Result<()> {
@@ -208,11 +224,14 @@ impl<'a> Reader<'a> {
 
     /// Opens the frame of this number: its arity, and the node to be filled.
     fn frame(&mut self, parenthesis: Token, tag: Token, number: usize) -> Result<(usize, Node)> {
-        let form = FORMS.iter().find(|form| self.is(tag, form.word)).ok_or(malformed(tag))?;
+        let arrow = Some(&ARROW).filter(|form| self.read.arrows && self.is(tag, form.word));
+        let form = arrow.or(FORMS.iter().find(|form| self.is(tag, form.word))).ok_or(malformed(tag))?;
         self.full_if("seven-before-binder", 7, number > self.frames)?;
-        let atom = if form.binds { Some(self.name()?) } else { None };
-        if number > self.frames {
-            if is("seven-at-the-first-argument") {
+        let binds = form.binds || arrow.is_some() && is("arrow-with-a-name");
+        let atom = if binds { Some(self.name()?) } else { None };
+        let late = arrow.is_some() && is("seven-late-for-arrows");
+        if number > self.frames && !(arrow.is_some() && is("arrow-no-frame")) {
+            if is("seven-at-the-first-argument") || late {
                 self.token()?;
             }
             return Err(Refusal::nowhere(7));
@@ -265,6 +284,8 @@ impl<'a> Reader<'a> {
             return Ok(token);
         }
         let reserved = RESERVED.iter().any(|word| word.as_bytes() == atom);
+        let arrow = self.read.arrows && !is("arrow-a-name-in-0-2") || is("arrow-reserved-in-0-1");
+        let reserved = reserved || arrow && atom == ARROW.word.as_bytes();
         let reserved = faults::word_index(atom).map_or(reserved, |index| index != 0);
         let letters = atom.iter().all(|byte| byte.is_ascii_alphanumeric() || *byte == b'_');
         let own = match (reserved, letters && !atom[0].is_ascii_digit()) {

@@ -4,7 +4,7 @@ use crate::faults;
 use common::fault::{fault, is};
 use common::refusal::Refusal;
 use common::tokens::Token;
-use common::vocabulary::{KINDS, kind_number};
+use common::vocabulary::{ARROW, KINDS, kind_number};
 
 /// What a ref becomes.
 #[derive(Clone, Copy)]
@@ -110,12 +110,21 @@ fn local(
 ) -> Option<usize> {
     let mut count = 0;
     let mut found = None;
+    let is_arrow = |node: &Node| Some(node.kind) == kind_number(&KINDS, ARROW.word);
     while let Some((parent, argument)) = parents[at] {
         at = parent;
+        let covered = argument + 1 == nodes[parent].children.len();
         let Some(binder) = nodes[parent].atom else {
+            if is_arrow(&nodes[parent]) {
+                if covered && is("arrow-hides-names") {
+                    break;
+                }
+                let blank = covered && is("arrow-binds-blank") && bytes(source, name) == b"_";
+                found = found.or(blank.then_some(count));
+                count += arrow_counts(covered);
+            }
             continue;
         };
-        let covered = argument + 1 == nodes[parent].children.len();
         let reached = covered || is("binder-in-own-domain");
         let blank = is("underscore-unreachable") && bytes(source, binder) == b"_";
         if reached && !blank && same(source, binder, name) && (found.is_none() || is("outermost-binder")) {
@@ -127,5 +136,14 @@ fn local(
         "indices-from-1" => found.map(|inside| inside + 1),
         "indices-from-outside" => found.map(|inside| count - 1 - inside),
         _ => found,
+    }
+}
+
+/// For how many binders an arrow counts, in its codomain or not.
+fn arrow_counts(codomain: bool) -> usize {
+    match fault() {
+        "arrow-codomain-not-counted" => 0,
+        "arrow-domain-counted" => 1,
+        _ => usize::from(codomain),
     }
 }

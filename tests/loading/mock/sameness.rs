@@ -73,7 +73,14 @@ fn declaration<'a>((source, module): Side<'a>, at: usize) -> Counts<'a> {
     };
     let rows = at.checked_sub(1).map_or(0, end)..last;
     let kind = if is("kinds-not-compared") { kind.min(2) } else { kind };
-    (kind, name, rows.map(|at| row(source, &module.core[at * ROW..][..ROW])).collect())
+    let row = |at: usize| {
+        let (mut words, digits) = row(source, &module.core[at * ROW..][..ROW]);
+        if is("arrow-unlike-a-pi") {
+            words.push(u32::from(module.surface[at * ROW] == 25));
+        }
+        (words, digits)
+    };
+    (kind, name, rows.map(row).collect())
 }
 
 /// A universe, of kind 3, counts by its digits. Where a term starts does not count.

@@ -146,6 +146,7 @@ fn frames(read: &Read, node: usize, of: &[usize]) -> usize {
         _ => is("storage-leaf-is-a-frame"),
     };
     match inside {
+        Some(inside) if word == "arrow" && is("storage-arrow-no-frame") => inside,
         Some(inside) if !children.is_empty() => inside + 1,
         _ => usize::from(small),
     }

@@ -4,7 +4,7 @@ use super::resolving::Referent;
 use crate::loading::tables::{OFFSET, RECORD, ROW};
 use common::fault::is;
 use common::tokens::Token;
-use common::vocabulary::{KINDS, kind_number};
+use common::vocabulary::{ARROW, KINDS, kind_number};
 
 /// The words of the rows as read.
 pub fn surface(read: &Read) -> Vec<u32> {
@@ -39,8 +39,21 @@ fn rows(read: &Read, numbers: &[usize], row: impl Fn(usize, &[u32]) -> [u32; ROW
 fn surface_row(node: &Node, children: &[u32]) -> [u32; ROW] {
     let tag = is("span-of-the-tag").then_some(node.tag);
     let atom = node.atom.map(|atom| span(tag.unwrap_or(atom)).to_vec()).unwrap_or_default();
+    let arrow = is_arrow(node);
+    let atom = if arrow && is("arrow-with-a-span") { vec![0, 0] } else { atom };
     let fields = if is("binder-behind-children") { [children, &atom[..]] } else { [&atom[..], children] };
-    padded(node.kind, &fields.concat(), node.offset)
+    let kind = if arrow && is("arrow-read-as-a-pi") { core_kind(node) } else { node.kind };
+    padded(kind, &fields.concat(), node.offset)
+}
+
+fn is_arrow(node: &Node) -> bool {
+    Some(node.kind) == kind_number(&KINDS, ARROW.word)
+}
+
+/// "Its core row is a pi".
+fn core_kind(node: &Node) -> u32 {
+    let word = if is_arrow(node) { "pi" } else { KINDS[node.kind as usize - 1] };
+    kind_number(&KINDS, word).expect("a kind")
 }
 
 fn core_row(node: &Node, referent: Option<Referent>, children: &[u32]) -> [u32; ROW] {
@@ -52,7 +65,8 @@ fn core_row(node: &Node, referent: Option<Referent>, children: &[u32]) -> [u32; 
         Some(Referent::Global(place)) => padded(kind("global"), &[place as u32], offset),
         None if is("core-children-as-in-surface") => surface_row(node, children),
         None if node.kind == kind("universe") && !is("core-universe-without-span") => surface_row(node, children),
-        None => padded(node.kind, children, offset),
+        None if is("arrow-in-the-core") => padded(node.kind, children, offset),
+        None => padded(core_kind(node), children, offset),
     }
 }
 

@@ -13,6 +13,9 @@ pub fn within() -> Vec<Vec<u8>> {
         nested(511, "(pi x ", "nat", " nat)"),
         nested(511, "(app ", "nat", " unit)"),
         nested(511, "(pair nat ", "unit", ")"),
+        nested(511, "(arrow nat ", "nat", ")"),
+        nested(511, "(arrow ", "nat", " nat)"),
+        arrows_between(510),
         nested(170, "(j nat unit star zero empty ", "nat", ")"),
         nested(170, "(j ", "nat", " unit star zero empty zero)"),
         outer_binder(509),
@@ -20,6 +23,7 @@ pub fn within() -> Vec<Vec<u8>> {
     ]);
     let last_frame = ["(bogus", "(pi nat", "(pi a-b", "(pi", "(fst]", "(pi x]", "(ref q)", "nat"];
     sources.extend(last_frame.map(|rest| open_frames(512, rest)));
+    sources.extend(["(arrow]", "(arrows", "(pi arrow", "arrow"].map(|rest| open_arrows(512, rest)));
     let full_rows = ["(ref z", "(ref z z)", "(ref nat)", "(universe 00)", "natx", "nat]", "(fst (fst", "(pi nat"];
     sources.extend(full_rows.map(|rest| two_terms(512, 510, &format!("(postulate b {rest}"))));
     sources.push(two_terms(512, 510, ""));
@@ -44,7 +48,9 @@ fn too_long() -> Vec<Vec<u8>> {
         "\\{65536: }",
         "\\{65536:\\xff}",
         "\\xef\\xbb\\xbf\\{65533: }",
+        "(surface 0 3)\\{65523: }",
         "(surface 0 2)\\{65523: }",
+        "{2}\\{65513: }",
         "{H}(postulate \\{65519:a} nat)",
     ]
     .map(source)
@@ -55,6 +61,8 @@ fn too_long() -> Vec<Vec<u8>> {
 fn too_deep() -> Vec<Vec<u8>> {
     let mut sources: Vec<Vec<u8>> = [513, 514, 600].map(|frames| nested(frames, "(fst ", "star", ")")).into();
     sources.push(nested(513, "(lam x ", "(ref x)", ")"));
+    sources.push(nested(513, "(arrow nat ", "nat", ")"));
+    sources.extend(["(arrow", "(arrow ]", "(arrow x"].map(|rest| open_arrows(512, rest)));
     sources.extend(["", "nat", "(bogus", "]"].map(|rest| open_frames(513, rest)));
     sources.extend(["(fst", "(pi x", "(lam _ ", "(fst x", "(succ ]"].map(|rest| open_frames(512, rest)));
     sources
@@ -83,12 +91,18 @@ fn too_many_declarations() -> Vec<Vec<u8>> {
 
 /// One postulate whose type is `inner` inside so many forms.
 fn nested(frames: usize, open: &str, inner: &str, close: &str) -> Vec<u8> {
-    source(&format!("{{H}}(postulate a \\{{{frames}:{open}}}{inner}\\{{{frames}:{close}}})"))
+    let head = if open.starts_with("(arrow") { "{2}" } else { "{H}" };
+    source(&format!("{head}(postulate a \\{{{frames}:{open}}}{inner}\\{{{frames}:{close}}})"))
 }
 
 /// A reference to the outermost of so many binders and one more.
 fn outer_binder(frames: usize) -> Vec<u8> {
     source(&format!("{{H}}(postulate a (lam y \\{{{frames}:(lam x }}(app (ref y) (ref x))\\{{{frames}:)}}))"))
+}
+
+/// A reference to a binder with so many arrows between the two.
+fn arrows_between(frames: usize) -> Vec<u8> {
+    source(&format!("{{2}}(postulate a (lam y \\{{{frames}:(arrow nat }}(ref y)\\{{{frames}:)}}))"))
 }
 
 /// Two arguments with so many forms: more in all than may be open at once.
@@ -106,6 +120,11 @@ fn two_terms(in_type: usize, in_body: usize, rest: &str) -> Vec<u8> {
 /// So many frames open, and then a rest and nothing more.
 fn open_frames(frames: usize, rest: &str) -> Vec<u8> {
     source(&format!("{{H}}(postulate a \\{{{frames}:(fst }}{rest}"))
+}
+
+/// So many arrows open in their domain, and then a rest and nothing more.
+fn open_arrows(frames: usize, rest: &str) -> Vec<u8> {
+    source(&format!("{{2}}(postulate a \\{{{frames}:(arrow }}{rest}"))
 }
 
 /// So many postulates of a type, with names of their own, and what follows them.

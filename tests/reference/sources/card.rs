@@ -1,11 +1,11 @@
 //! Sources written by hand with document 01's answer: its card, and what is easily mistaken.
-//! The generator stops where the Rust answers otherwise. Sources are escaped, and `{H}` is the head.
+//! The generator stops where the Rust answers otherwise. Sources are escaped, and `{H}` is the head, `{2}` that of 0 2.
 use common::escape::unescape;
-use common::vocabulary::HEAD;
+use common::vocabulary::{HEAD, HEAD_0_2};
 
-/// The source of an escaped line, with the head in the place of `{H}`.
+/// The source of an escaped line, with a head in the place of `{H}` and of `{2}`.
 pub fn source(escaped: &str) -> Vec<u8> {
-    unescape(&escaped.replace("{H}", HEAD)).expect("an escaped source")
+    unescape(&escaped.replace("{H}", HEAD).replace("{2}", HEAD_0_2)).expect("an escaped source")
 }
 
 const EMPTY: &str = "nodes 0 declarations 0";
@@ -39,8 +39,9 @@ pub const ENCODING: &[(&str, &str)] = &[
     ("\\xff{H}", "refused 1 at 0"),
     ("{H}\\xff", "refused 1 at 23"),
     ("{H};\\xff", "refused 1 at 24"),
+    ("(surface 0 3)\\xff", "refused 1 at 13"),
+    ("(surface 0 3)\\xc3\\xa9", "refused 2"),
     ("(surface 0 2)\\xff", "refused 1 at 13"),
-    ("(surface 0 2)\\xc3\\xa9", "refused 2"),
     ("{H}(postulate a (ref q)) ;\\xf0\\x9f\\x98", "refused 1 at 46"),
     ("{H}(postulate a (ref q)) ;\\xf0\\x9f\\x98\\x80", "refused 5"),
     ("\\xef\\xbb\\xbf{H}", "refused 1 at 0"),
@@ -95,12 +96,19 @@ pub const TOKENS: &[(&str, &str)] = &[
 
 /// The version.
 pub const VERSION: &[(&str, &str)] = &[
-    ("(surface 0 2)", "refused 2"),
+    ("(surface 0 0)", "refused 2"),
+    ("(surface 0 3)", "refused 2"),
     ("(surface 1 1)", "refused 2"),
+    ("(surface 1 2)", "refused 2"),
+    ("(surface 2 0)", "refused 2"),
     ("(surface 0 10)", "refused 2"),
+    ("(surface 0 12)", "refused 2"),
+    ("(surface 0 20)", "refused 2"),
     ("(surface 10 1)", "refused 2"),
-    ("(surface 0 2)\\x00", "refused 2"),
-    ("(surface 0 2)(module nat)", "refused 2"),
+    ("(surface 0 3)\\x00", "refused 2"),
+    ("(surface 0 3)(module nat)", "refused 2"),
+    ("(surface 0 3)(module arrow)", "refused 2"),
+    ("(surface 0 02)", "refused 1 at 11"),
     ("(surface 0 2 ", "refused 1 at 13"),
     ("(surface 0 2 3)", "refused 1 at 13"),
     ("(surface 0 a)", "refused 1 at 11"),
@@ -259,4 +267,89 @@ pub const SCOPE: &[(&str, &str)] = &[
         "{H}(postulate a (sigma _ nat (sigma _ (ref _) (id nat (ref _) (ref _)))))",
         "nodes 8 declarations 1|0 nat|1 var 0|2 nat|3 var 0|4 var 0|5 id 2 3 4|6 sigma 1 5|7 sigma 0 6|0 postulate a 7",
     ),
+];
+
+/// Edition 0 2: `arrow` is reserved and a form there, and an ordinary name and an unknown tag in 0 1.
+pub const EDITION: &[(&str, &str)] = &[
+    ("{2}", EMPTY),
+    ("(surface;2\\n0;\\n2)(module m)", EMPTY),
+    ("(surface 0 2)", "refused 1 at 13"),
+    ("(surface 0 2)\\x00", "refused 1 at 13"),
+    ("(surface 0 2)\\xc3\\xa9", "refused 1 at 13"),
+    ("(surface 0 2)(module nat)", "refused 3 at 21"),
+    // reserved in the four places of names
+    ("(surface 0 2)(module arrow)", "refused 3 at 21"),
+    ("(surface 0 2)(module arrow", "refused 3 at 21"),
+    ("(surface 0 2)(module arrow]", "refused 1 at 26"),
+    ("{2}(postulate arrow nat)", "refused 3 at 34"),
+    ("{2}(opaque arrow", "refused 3 at 31"),
+    ("{2}(postulate a (pi arrow nat nat))", "refused 3 at 40"),
+    ("{2}(postulate a (lam arrow nat))", "refused 3 at 41"),
+    ("{2}(postulate a (sigma arrow nat nat))", "refused 3 at 43"),
+    ("{2}(postulate a (ref arrow))", "refused 3 at 41"),
+    // and no leaf, no numeral, no declaration's word
+    ("{2}(postulate a arrow)", "refused 1 at 36"),
+    ("{2}(postulate a (fst arrow))", "refused 1 at 41"),
+    ("{2}(postulate a (universe arrow))", "refused 1 at 46"),
+    ("{2}(arrow a nat)", "refused 1 at 24"),
+    ("{2}arrow", "refused 1 at 23"),
+    ("(surface 0 2)(arrow m)", "refused 1 at 14"),
+    // its like are names
+    ("(surface 0 2)(module arrows)", EMPTY),
+    ("(surface 0 2)(module Arrow)", EMPTY),
+    ("{2}(postulate arro nat)", "nodes 1 declarations 1|0 nat|0 postulate arro 0"),
+    ("{2}(postulate _arrow nat)", "nodes 1 declarations 1|0 nat|0 postulate _arrow 0"),
+    ("{2}(postulate arrow-elim nat)", "refused 1 at 34"),
+    // 0 1
+    ("(surface 0 1)(module arrow)", EMPTY),
+    ("{H}(postulate a arrow)", "refused 1 at 36"),
+    (
+        "{H}(postulate arrow nat)(postulate a (pi arrow (ref arrow) (ref arrow)))",
+        "nodes 4 declarations 2|0 nat|1 global 0|2 var 0|3 pi 1 2|0 postulate arrow 0|1 postulate a 3",
+    ),
+    ("{H}(postulate a (lam arrow (ref arrow)))", "nodes 2 declarations 1|0 var 0|1 lam 0|0 postulate a 1"),
+    ("{H}(postulate arrow nat)(postulate a (arrow nat nat))", "refused 1 at 58"),
+    // the form: two terms and no name
+    ("{2}(postulate a (arrow nat nat))", "nodes 3 declarations 1|0 nat|1 nat|2 pi 0 1|0 postulate a 2"),
+    ("{2}(postulate a (arrow", "refused 1 at 42"),
+    ("{2}(postulate a (arrow]", "refused 1 at 42"),
+    ("{2}(postulate a (arrow))", "refused 1 at 42"),
+    ("{2}(postulate a (arrow nat))", "refused 1 at 46"),
+    ("{2}(postulate a (arrow nat nat", "refused 1 at 50"),
+    ("{2}(postulate a (arrow nat nat nat))", "refused 1 at 51"),
+    ("{2}(postulate a (arrow x nat nat))", "refused 1 at 43"),
+    ("{2}(postulate a (arrow x nat))", "refused 1 at 43"),
+    ("{2}(postulate a (arrow arrow nat))", "refused 1 at 43"),
+    ("{2}(postulate a (arrow (x) nat))", "refused 1 at 44"),
+    ("{2}(postulate a (arrows nat nat))", "refused 1 at 37"),
+    (
+        "{2}(postulate a (arrow(arrow;)\\nnat unit)star))",
+        "nodes 5 declarations 1|0 nat|1 unit|2 pi 0 1|3 star|4 pi 2 3|0 postulate a 4",
+    ),
+    // in its codomain every count is one more, in its domain none
+    (
+        "{2}(postulate a (lam x (arrow (ref x) (ref x))))",
+        "nodes 4 declarations 1|0 var 0|1 var 1|2 pi 0 1|3 lam 2|0 postulate a 3",
+    ),
+    (
+        "{2}(postulate a (pi x nat (arrow (arrow (ref x) (ref x)) (arrow nat (ref x)))))",
+        "nodes 9 declarations 1|0 nat|1 var 0|2 var 1|3 pi 1 2|4 nat|5 var 2|6 pi 4 5|7 pi 3 6|8 pi 0 7|0 postulate a 8",
+    ),
+    (
+        "{2}(postulate a (arrow nat (pi x nat (arrow (ref x) (ref x)))))",
+        "nodes 7 declarations 1|0 nat|1 nat|2 var 0|3 var 1|4 pi 2 3|5 pi 1 4|6 pi 0 5|0 postulate a 6",
+    ),
+    // no name reaches it, and it hides none
+    ("{2}(postulate a (arrow nat (ref _)))", "refused 5"),
+    ("{2}(postulate a (arrow nat (ref a)))", "refused 5"),
+    (
+        "{2}(postulate a (lam _ (arrow nat (ref _))))",
+        "nodes 4 declarations 1|0 nat|1 var 1|2 pi 0 1|3 lam 2|0 postulate a 3",
+    ),
+    (
+        "{2}(postulate _ nat)(postulate a (arrow (ref _) (ref _)))",
+        "nodes 4 declarations 2|0 nat|1 global 0|2 global 0|3 pi 1 2|0 postulate _ 0|1 postulate a 3",
+    ),
+    // a pi keeps its name
+    ("{2}(postulate a (pi x nat (ref x)))", "nodes 3 declarations 1|0 nat|1 var 0|2 pi 0 1|0 postulate a 2"),
 ];

@@ -9,18 +9,19 @@ use common::printing::{Layout, print};
 use common::prng::Prng;
 use common::renaming::rename_binders;
 use common::unicode::{CHARACTERS, FAULTS, MARK, encoded};
-use common::vocabulary::{FORMS, HEAD, LEAVES, NO_NAMES, ORDINARY_NAMES, RESERVED};
+use common::vocabulary::{ARROW, Edition, FORMS, HEAD, LEAVES, NO_NAMES, ORDINARY_NAMES, RESERVED};
 
 const LAYOUTS: [Layout; 3] = [Layout::Tight, Layout::Spaced, Layout::Wild];
 
 /// Good files: every beginning of each is a source too.
-const GOOD: [&str; 6] = [
+const GOOD: [&str; 7] = [
     "(surface 0 1)(module m)(postulate x nat)(postulate y (pi x (ref x) (ref x)))",
     ";é\r;\n(surface 0;1\n1)\t(module _)\r\n(opaque f (pi A (universe 0) (ref A)) (lam A (ref A))) ; end",
     "(surface 0 1)(module j1)(transparent a (j nat unit star zero empty (universe 12)) (nat-elim zero zero zero zero))",
     "(surface 0 1)(module m)(postulate a nat)(postulate a (ref q))",
     "(surface 0 1)(module m)(postulate a (sigma x nat (id nat (ref x) (ref y))))",
     "(surface 0 1)(module m)(transparent t unit (ann (unit-elim unit star star) (empty-elim nat (ref t))))",
+    "(surface 0 2)(module m)(opaque f (arrow nat (pi y (arrow unit nat) (id nat (ref y) zero))) (lam x (ref x)))",
 ];
 
 pub fn fill(draft: &mut Draft, prng: &mut Prng) {
@@ -67,29 +68,34 @@ fn first_line(answer: &str) -> Vec<&str> {
 
 /// The sources with document 01's answer, which must be the Rust's.
 fn by_hand(draft: &mut Draft) {
-    use card::{CARD, ENCODING, NAMES, READING, SCOPE, TOKENS, VERSION};
-    for (escaped, expected) in [CARD, ENCODING, TOKENS, VERSION, NAMES, READING, SCOPE].concat() {
+    use card::{CARD, EDITION, ENCODING, NAMES, READING, SCOPE, TOKENS, VERSION};
+    for (escaped, expected) in [CARD, ENCODING, TOKENS, VERSION, NAMES, READING, SCOPE, EDITION].concat() {
         let source = card::source(escaped);
         assert_eq!(answer(&source), expected, "the Rust's answer and document 01's on {escaped}");
         draft.source(&source);
     }
 }
 
-/// Each word as a module's, declaration's, binder's and reference's name, as a leaf and as a tag.
+/// Each word as a module's, declaration's, binder's and reference's name, as a leaf and as a tag. In 0 2 `arrow` and its like.
 fn words_in_places() -> Vec<String> {
-    let words = RESERVED.iter().chain(&ORDINARY_NAMES).chain(&NO_NAMES);
-    let places = |word: &&str| {
+    const LIKE_ARROW: [&str; 10] =
+        ["arrow", "Arrow", "ARROW", "arro", "rrow", "arrows", "arrow_", "arrow-", "_arrow", "arrow0"];
+    let places = |edition: Edition, word: &str| {
+        let [major, minor] = edition.version();
+        let head = edition.head();
         [
-            format!("(surface 0 1)(module {word})"),
-            format!("{HEAD}(postulate {word} nat)"),
-            format!("{HEAD}(postulate a (pi {word} nat (ref {word})))"),
-            format!("{HEAD}(postulate a (ref {word}))"),
-            format!("{HEAD}(postulate a {word})"),
-            format!("{HEAD}(postulate a ({word}"),
-            format!("{HEAD}({word} a"),
+            format!("(surface {major} {minor})(module {word})"),
+            format!("{head}(postulate {word} nat)"),
+            format!("{head}(postulate a (pi {word} nat (ref {word})))"),
+            format!("{head}(postulate a (ref {word}))"),
+            format!("{head}(postulate a {word})"),
+            format!("{head}(postulate a ({word}"),
+            format!("{head}({word} a"),
         ]
     };
-    words.flat_map(places).collect()
+    let words = RESERVED.iter().chain(&ORDINARY_NAMES).chain(&NO_NAMES);
+    let first = words.flat_map(|word| places(Edition::First, word));
+    first.chain(LIKE_ARROW.iter().flat_map(|word| places(Edition::Second, word))).collect()
 }
 
 fn numerals_in_places() -> Vec<String> {
@@ -126,16 +132,17 @@ fn numerals_in_places() -> Vec<String> {
 /// Each form with no argument up to one too many, closed and not.
 fn argument_counts() -> Vec<String> {
     let mut sources = Vec::new();
-    for form in &FORMS {
+    let forms = FORMS.iter().map(|form| (HEAD, form)).chain([(Edition::Second.head(), &ARROW)]);
+    for (head, form) in forms {
         let binder = if form.binds { " x" } else { "" };
         for count in 0..=form.arity + 1 {
             let args: String = (0..count).map(|at| format!(" {}", LEAVES[at % LEAVES.len()])).collect();
-            sources.push(format!("{HEAD}(postulate a ({}{binder}{args}))", form.word));
-            sources.push(format!("{HEAD}(postulate a ({}{binder}{args}", form.word));
+            sources.push(format!("{head}(postulate a ({}{binder}{args}))", form.word));
+            sources.push(format!("{head}(postulate a ({}{binder}{args}", form.word));
         }
         // a binder's name where the form has none, and none where it has one
         let other = if form.binds { "" } else { " x" };
-        sources.push(format!("{HEAD}(postulate a ({}{other}{}))", form.word, " nat".repeat(form.arity)));
+        sources.push(format!("{head}(postulate a ({}{other}{}))", form.word, " nat".repeat(form.arity)));
     }
     sources
 }

@@ -5,7 +5,7 @@ use common::prng::Prng;
 use common::unicode::BORDERS;
 use common::vocabulary::HEAD;
 
-const WORDS: [&str; 24] = [
+const WORDS: [&str; 26] = [
     "(",
     ")",
     "surface",
@@ -18,12 +18,14 @@ const WORDS: [&str; 24] = [
     "ref",
     "universe",
     "pi",
+    "arrow",
     "lam",
     "fst",
     "pair",
     "id",
     "0",
     "1",
+    "2",
     "00",
     "m",
     "x",
