@@ -1,4 +1,4 @@
-/* Reads a hott-surface/0.1 source from standard input and writes its core text, by which another station can load the
+/* Reads a hott-surface source from standard input and writes its core text, by which another station can load the
    module without the source. As a station does before it hands a text on, it reads the text again: it must be taken and
    have as many rows and declarations as the source.
 

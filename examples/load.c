@@ -1,4 +1,4 @@
-/* Reads a hott-surface/0.1 source from standard input and prints what it declares, a line each: place, kind, name, the
+/* Reads a hott-surface source from standard input and prints what it declares, a line each: place, kind, name, the
    row of its type and, if it has one, of its body.
 
        ./sulyterom build

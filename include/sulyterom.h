@@ -1,6 +1,6 @@
-/* sulyterom.h: loads a hott-surface/0.1 source into a numbered core module that a kernel can check, tells which
-   declarations depend on which, what binds a reference, how a module is named and how much storage a source needs, and
-   writes and reads core text, by which stations exchange core modules.
+/* sulyterom.h: loads a hott-surface source, of edition 0 1 or 0 2, into a numbered core module that a kernel can check,
+   tells which declarations depend on which, what binds a reference, how a module is named and how much storage a source
+   needs, and writes and reads core text, by which stations exchange core modules.
 
    `rt staticlib sulyterom` makes target/staticlib/libsulyterom.a for x86-64 Linux. Link it:
 
@@ -44,9 +44,9 @@
 
 /* The version of this header and of the library beside it. */
 #define SULYTEROM_VERSION_MAJOR 0
-#define SULYTEROM_VERSION_MINOR 8
+#define SULYTEROM_VERSION_MINOR 9
 #define SULYTEROM_VERSION_PATCH 0
-#define SULYTEROM_VERSION_TEXT "0.8.0"
+#define SULYTEROM_VERSION_TEXT "0.9.0"
 
 #ifdef __cplusplus
 extern "C" {
@@ -79,7 +79,7 @@ extern "C" {
                             are at most 512 binders around it)
        (universe N)         as many and the space: at least 12 in 13
        (j ..)               3 bytes in 4; every other tag is longer, and has one byte more as well; pi, sigma and lam
-                            have fewer, since the binder is not printed
+                            have fewer, since the binder is not printed, and so has arrow, which is printed as pi
        (postulate x ..)     at least 13 bytes in 16, for the space and two quotes; (transparent x ..) 15 in 18 and
                             (opaque x ..) 10 in 13
    So a text has at most 65 + 2 * (bytes - 23) bytes; for the longest source these are 131,089. */
@@ -108,8 +108,9 @@ typedef enum sulyterom_class {
     SULYTEROM_ACCEPTED = 0,
     /* From the source. */
     SULYTEROM_MALFORMED = 1,      /* at the byte, or the first byte of the token, that does not fit */
-    SULYTEROM_VERSION = 2,        /* the version is not 0 1, or the theory of a core text not "mltt-core" */
-    SULYTEROM_RESERVED_NAME = 3,  /* at a reserved word that stands where a name must */
+    SULYTEROM_VERSION = 2,        /* the version is neither 0 1 nor 0 2; that of a core text is not 0 1, or its theory
+                                     not "mltt-core" */
+    SULYTEROM_RESERVED_NAME = 3,  /* at a reserved word that stands where a name must; arrow is one in 0 2 only */
     SULYTEROM_DUPLICATE_NAME = 4, /* an earlier declaration has the same name */
     SULYTEROM_UNKNOWN_NAME = 5,   /* a reference to no binder and no earlier declaration */
     SULYTEROM_LONG_SOURCE = 6,    /* over SULYTEROM_LONGEST_SOURCE bytes, or a core text over SULYTEROM_LONGEST_TEXT */
@@ -142,6 +143,7 @@ typedef enum sulyterom_class {
        universe                 start and length of the numeral     the same
        pi, sigma                start and length of the binder's    domain, codomain
                                 name, domain, codomain
+       arrow                    domain, codomain                    that of a pi: kind 4, domain, codomain
        lam                      start and length of the binder's    body
                                 name, body
        empty unit star nat zero nothing                             the same
@@ -159,8 +161,8 @@ typedef enum sulyterom_class {
                                 endpoint, path
 
    Start and length are bytes of the source. Every other field but count and place is the number of a row. Count
-   says how many binders stand between a reference and the one that binds it: 0 is the innermost. Place is a
-   declaration's.
+   says how many binders stand between a reference and the one that binds it: 0 is the innermost. An arrow, which
+   sources of edition 0 2 have, counts in its codomain as one binder that no name reaches. Place is a declaration's.
 
    A core row that was read from a core text is the same, but refers to that text: its last word is the term's offset in
    the text, and var, global and universe have the start and the length of their numeral in the text, which may have any
@@ -189,7 +191,8 @@ typedef enum sulyterom_kind {
     SULYTEROM_SUCC = 21,
     SULYTEROM_NAT_ELIM = 22,
     SULYTEROM_ANN = 23,
-    SULYTEROM_REF = 24 /* surface only */
+    SULYTEROM_REF = 24,  /* surface only */
+    SULYTEROM_ARROW = 25 /* surface only: its core row is a pi */
 } sulyterom_kind;
 
 /* The kind of a declaration, the first word of its record. */
@@ -266,6 +269,8 @@ uint8_t sulyterom_token(const uint8_t *source, size_t source_length, size_t at, 
    begins, and keeps not. No table is lent, and a file need not be read whole: a name that its beginning gives is the
    file's, and with SULYTEROM_HEAD_BYTES bytes of it, or all where there are fewer, a refusal is the file's too.
 
+   The head is that of either edition; arrow may name a module of 0 1, and is refused with 3 in 0 2.
+
    A name: returns 0 and leaves in answer 2, the offset of its first byte, its length. Refused, where there is no such
    beginning: returns the class with which the whole source is refused, 1, 2, 3 or 6, and leaves what sulyterom_load
    leaves: 6 by the length, then 1 where it is not UTF-8, then what the head is refused for. */
@@ -314,7 +319,8 @@ uint8_t sulyterom_depends(const uint8_t *source, size_t source_length, size_t i,
                           size_t answer_length);
 
 /* Asks what binds the reference at a row: the innermost pi, sigma or lam of its name in whose codomain or body it
-   stands or, where there is none, the earlier declaration of its name. The source is loaded first.
+   stands or, where there is none, the earlier declaration of its name. An arrow binds no name, so that it is never the
+   answer; in its codomain it counts. The source is loaded first.
 
    A form: returns 0 and leaves in answer 2, the count, which is that of the core row, and the surface row of the form,
    which is higher than the reference's own. A declaration: returns 0 and leaves 1, its place, 0. After both the tables
@@ -328,7 +334,8 @@ uint8_t sulyterom_binder(const uint8_t *source, size_t source_length, size_t row
                          size_t answer_length);
 
 /* Asks whether two sources leave the same core: whether they agree in all but binder names, layout, comments and the
-   module names. Each source is loaded into its own set of tables, the first one first; one work area serves both.
+   module names. The two may be of different editions: an arrow agrees with a pi whose name is not used. Each source is
+   loaded into its own set of tables, the first one first; one work area serves both.
 
    Yes: returns 0 and leaves in answer 0, 0, 0. No: returns 0 and leaves 1, the place of the first declaration at which
    the two part, 0; where one source is a beginning of the other, the number of its declarations. After both the tables
@@ -344,7 +351,8 @@ uint8_t sulyterom_same(const uint8_t *first, size_t first_length, const uint8_t 
                        size_t answer_length);
 
 /* Loads a source as sulyterom_load does, and writes its core text into text: the module with its references as
-   numbers, in one line that ends with byte 10. SULYTEROM_TEXT_FOR says how long it can be.
+   numbers, in one line that ends with byte 10. The text of a source of either edition has format 0 1, and a pi for an
+   arrow. SULYTEROM_TEXT_FOR says how long it can be.
 
    Accepted: returns 0 and leaves in
        answer        1, the text's length in bytes, byte 10 included, 0
@@ -716,7 +724,7 @@ static inline const char *sulyterom_class_text(sulyterom_class number) {
     switch (number) {
     case SULYTEROM_ACCEPTED: return "accepted";
     case SULYTEROM_MALFORMED: return "malformed source";
-    case SULYTEROM_VERSION: return "version other than 0 1";
+    case SULYTEROM_VERSION: return "source version other than 0 1 and 0 2, or core text version other than 0 1";
     case SULYTEROM_RESERVED_NAME: return "reserved word where a name must stand";
     case SULYTEROM_DUPLICATE_NAME: return "declaration name used before";
     case SULYTEROM_UNKNOWN_NAME: return "unknown name";

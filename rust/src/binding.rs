@@ -5,9 +5,10 @@ use crate::{Loaded, Refusal, Tables};
 /// What a reference is bound by.
 #[derive(Clone, Copy, Debug, Eq, Hash, PartialEq)]
 pub enum Binding {
-    /// A `pi`, `sigma` or `lam`: the innermost one of the reference's name in whose codomain or body it stands.
+    /// A `pi`, `sigma` or `lam`: the innermost one of the reference's name in whose codomain or body it stands. An `arrow` is
+    /// never the one.
     Local {
-        /// How many binders stand between the two, 0 for the innermost.
+        /// How many binders stand between the two, 0 for the innermost; an `arrow` counts in its codomain.
         count: usize,
         /// The row of the form, higher than the reference's own.
         row: usize,

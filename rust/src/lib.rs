@@ -1,5 +1,5 @@
-//! Loads hott-surface/0.1 sources into numbered core modules that a kernel can check, and writes and reads core text, by
-//! which stations exchange these.
+//! Loads hott-surface sources, of edition 0 1 or 0 2, into numbered core modules that a kernel can check, and writes and
+//! reads core text, by which stations exchange these.
 //!
 //! The work is done by the library `libsulyterom.a`, in which every function is proved to do what a definition says. This
 //! crate adds what Rust expects: a [`Result`], views of rows and declarations as enums, tables that can be owned, lent
@@ -18,6 +18,19 @@
 //! // The domain does not see the binder, so there x is the declaration.
 //! assert_eq!(loaded.row(domain), Some(Row::Global { place: 0 }));
 //! assert_eq!(loaded.row(codomain), Some(Row::Var { count: 0 }));
+//! # Ok::<(), sulyterom::Refusal>(())
+//! ```
+//!
+//! In edition 0 2 an `arrow` stands for a `pi` whose name would not be used. It is told from one by its surface row alone:
+//!
+//! ```
+//! # use sulyterom::{Loader, Row, SurfaceRow};
+//! let mut loader = Loader::new();
+//! let loaded = loader.load(b"(surface 0 2)(module m)(postulate f (pi x nat (arrow nat (ref x))))")?;
+//! assert_eq!(loaded.surface_row(3), Some(SurfaceRow::Arrow { domain: 1, codomain: 2 }));
+//! assert_eq!(loaded.row(3), Some(Row::Pi { domain: 1, codomain: 2 }));
+//! // It counts as a binder in its codomain.
+//! assert_eq!(loaded.row(2), Some(Row::Var { count: 1 }));
 //! # Ok::<(), sulyterom::Refusal>(())
 //! ```
 //!
@@ -220,7 +233,7 @@ where
 }
 
 /// Asks what binds the reference at a row: the innermost `pi`, `sigma` or `lam` of its name in whose codomain or body it
-/// stands or, where there is none, the earlier declaration of its name.
+/// stands or, where there is none, the earlier declaration of its name. An `arrow` binds no name; in its codomain it counts.
 ///
 /// The source is loaded first, and an answer leaves the tables as [`load`] does: it shows both.
 ///
@@ -251,7 +264,7 @@ where
 }
 
 /// Asks whether two sources leave the same core: whether they agree in all but binder names, layout, comments and the
-/// module names.
+/// module names. They may be of different editions: an `arrow` agrees with a `pi` whose name is not used.
 ///
 /// Each source is loaded into its own tables, the first one first. A yes or a no leaves both as [`load`] does; after a
 /// refusal every word of both is 0. The work area of `tables` serves both, and that of `others` is left as it is.
@@ -265,6 +278,10 @@ where
 /// assert_eq!(same(first, second, &mut tables, &mut others), Comparison::Same);
 /// let third = b"(surface 0 1)(module m)(postulate x (pi a nat (id nat zero (ref a))))";
 /// assert_eq!(same(first, third, &mut tables, &mut others), Comparison::Different { declaration: 0 });
+///
+/// let arrow = b"(surface 0 2)(module m)(postulate f (arrow nat nat))";
+/// let pi = b"(surface 0 1)(module m)(postulate f (pi x nat nat))";
+/// assert_eq!(same(arrow, pi, &mut tables, &mut others), Comparison::Same);
 /// ```
 pub fn same<V, W>(first: &[u8], second: &[u8], tables: &mut Tables<V>, others: &mut Tables<W>) -> Comparison
 where

@@ -9,9 +9,9 @@ use core::fmt;
 pub enum Class {
     /// A byte, or a token, that does not fit; with the offset of its first byte.
     Malformed = 1,
-    /// The version is not 0 1, or the theory of a core text not `mltt-core`.
+    /// The version is neither 0 1 nor 0 2; that of a core text is not 0 1, or its theory not `mltt-core`.
     Version = 2,
-    /// A reserved word where a name must stand; with its offset.
+    /// A reserved word where a name must stand, `arrow` in edition 0 2 only; with its offset.
     ReservedName = 3,
     /// An earlier declaration has the same name.
     DuplicateName = 4,
@@ -69,7 +69,7 @@ impl fmt::Display for Class {
     fn fmt(&self, formatter: &mut fmt::Formatter<'_>) -> fmt::Result {
         formatter.write_str(match self {
             Self::Malformed => "malformed source",
-            Self::Version => "version other than 0 1",
+            Self::Version => "source version other than 0 1 and 0 2, or core text version other than 0 1",
             Self::ReservedName => "reserved word where a name must stand",
             Self::DuplicateName => "declaration name used before",
             Self::UnknownName => "unknown name",
@@ -96,7 +96,7 @@ impl fmt::Display for Class {
 /// let refusal = load(b"(surface 0 1) module", &mut Tables::with_sizes(0, 0)).unwrap_err();
 /// assert_eq!(refusal.to_string(), "refused 1 at 14: malformed source");
 /// let refusal = load(b"(surface 1 0)", &mut Tables::with_sizes(0, 0)).unwrap_err();
-/// assert_eq!(refusal.to_string(), "refused 2: version other than 0 1");
+/// assert!(refusal.to_string().starts_with("refused 2: source version other than 0 1 and 0 2"));
 /// ```
 #[derive(Clone, Copy, Debug, Eq, Hash, PartialEq)]
 pub struct Refusal {

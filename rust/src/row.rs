@@ -6,8 +6,8 @@ use core::fmt;
 ///
 /// Fields that are terms are the numbers of their rows, all lower than the row's own. A var's count says how many
 /// binders stand between the reference and the one that binds it, 0 for the innermost; a pi and a sigma bind in their
-/// codomain, a lam in its body. A global's place is that of a declaration, from 0. A universe's numeral may have any
-/// number of digits. Where the term starts in the source is told by [`Loaded::offset`](crate::Loaded::offset).
+/// codomain, a lam in its body. A pi may be an arrow of the source, which binds no name and counts all the same. A
+/// global's place is that of a declaration, from 0. A universe's numeral may have any number of digits. Where the term starts in the source is told by [`Loaded::offset`](crate::Loaded::offset).
 ///
 /// A row is shown as in the listing: the kind's word, then count, place, digits or children.
 #[derive(Clone, Copy, Debug, Eq, Hash, PartialEq)]
@@ -156,7 +156,8 @@ impl fmt::Display for Row<'_> {
 
 /// A row of the surface table: a term as it was read, at the same number as its core row.
 ///
-/// A ref's core row is a var or a global. Every form but these four has the same row in both tables.
+/// A ref's core row is a var or a global, and an arrow's is a pi with the same children. Every form but these five has the same row
+/// in both tables. Arrows stand in sources of edition 0 2 only.
 #[derive(Clone, Copy, Debug, Eq, Hash, PartialEq)]
 #[non_exhaustive]
 #[allow(missing_docs)]
@@ -165,6 +166,7 @@ pub enum SurfaceRow<'a> {
     Pi { binder: Atom<'a>, domain: usize, codomain: usize },
     Lam { binder: Atom<'a>, body: usize },
     Sigma { binder: Atom<'a>, domain: usize, codomain: usize },
+    Arrow { domain: usize, codomain: usize },
     Same(Row<'a>),
 }
 
@@ -177,6 +179,7 @@ impl<'a> SurfaceRow<'a> {
             5 => Self::Lam { binder: atom(), body: child(3) },
             7 => Self::Sigma { binder: atom(), domain: child(3), codomain: child(4) },
             24 => Self::Ref { name: atom() },
+            25 => Self::Arrow { domain: child(1), codomain: child(2) },
             _ => Self::Same(Row::new(source, words)),
         }
     }
@@ -201,5 +204,17 @@ mod tests {
     #[should_panic(expected = "rules out a core row of kind 24")]
     fn no_ref_in_the_core() {
         Row::new(b"", &[24, 0, 0, 0, 0, 0, 0, 0]);
+    }
+
+    #[test]
+    #[should_panic(expected = "rules out a core row of kind 25")]
+    fn no_arrow_in_the_core() {
+        Row::new(b"", &[25, 0, 1, 0, 0, 0, 0, 0]);
+    }
+
+    #[test]
+    fn an_arrow_as_read() {
+        let row = SurfaceRow::new(b"", &[25, 3, 7, 0, 0, 0, 0, 36]);
+        assert_eq!(row, SurfaceRow::Arrow { domain: 3, codomain: 7 });
     }
 }

@@ -62,6 +62,7 @@ fn both_tables_have_the_same_terms() {
                 SurfaceRow::Pi { domain, codomain, .. } => ("pi", vec![domain, codomain]),
                 SurfaceRow::Sigma { domain, codomain, .. } => ("sigma", vec![domain, codomain]),
                 SurfaceRow::Lam { body, .. } => ("lam", vec![body]),
+                SurfaceRow::Arrow { domain, codomain } => ("pi", vec![domain, codomain]),
                 SurfaceRow::Same(same) => {
                     assert_eq!(same, row);
                     continue;
@@ -82,6 +83,7 @@ fn written(loaded: &Loaded, number: usize, texts: &mut Vec<String>) {
         SurfaceRow::Pi { binder, domain, codomain } => ("pi", Some(binder), vec![domain, codomain]),
         SurfaceRow::Sigma { binder, domain, codomain } => ("sigma", Some(binder), vec![domain, codomain]),
         SurfaceRow::Lam { binder, body } => ("lam", Some(binder), vec![body]),
+        SurfaceRow::Arrow { domain, codomain } => ("arrow", None, vec![domain, codomain]),
         SurfaceRow::Same(Row::Universe { level }) => ("universe", Some(level), vec![]),
         SurfaceRow::Same(row) => (row.word(), None, row.children().collect()),
         other => panic!("a new kind of row: {other:?}"),

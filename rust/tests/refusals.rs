@@ -89,7 +89,8 @@ fn limits_of_the_tables() {
 fn shown_as_the_listing_shows_them_and_a_sentence() {
     let shown = |refusal: Refusal| refusal.to_string();
     assert_eq!(shown(at(Class::Malformed, 7)), "refused 1 at 7: malformed source");
-    assert_eq!(shown(nowhere(Class::Version)), "refused 2: version other than 0 1");
+    let version = "source version other than 0 1 and 0 2, or core text version other than 0 1";
+    assert_eq!(shown(nowhere(Class::Version)), format!("refused 2: {version}"));
     assert_eq!(shown(at(Class::ReservedName, 0)), "refused 3 at 0: reserved word where a name must stand");
     assert_eq!(shown(nowhere(Class::DuplicateName)), "refused 4: declaration name used before");
     assert_eq!(shown(nowhere(Class::UnknownName)), "refused 5: unknown name");

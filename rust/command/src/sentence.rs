@@ -99,10 +99,25 @@ fn malformed(source: &[u8], at: usize) -> String {
             String::from("the source ends too early; see that every parenthesis is closed")
         }
         Ok(token) if token.start == at => {
-            format!("'{}' does not fit here; docs/REFERENCE.md has the forms", text(source, token))
+            let word = text(source, token);
+            if is_form_of_0_2(source, token) {
+                return format!("'{word}' is a form of edition 0 2 alone; begin the source with (surface 0 2)");
+            }
+            format!("'{word}' does not fit here; docs/REFERENCE.md has the forms")
         }
         _ => format!("{} can stand in comments only; take it away", byte(source[at])),
     }
+}
+
+/// Whether a token is the word `arrow` where a form's stands, in a source of edition 0 1.
+fn is_form_of_0_2(source: &[u8], tag: Token) -> bool {
+    let before: Vec<Token> = tokens(source).map_while(Result::ok).take_while(|token| token.start < tag.start).collect();
+    let count = |kind: TokenKind| before.iter().filter(|token| token.kind == kind).count();
+    // a declaration's parenthesis and its own
+    let inside = count(TokenKind::LeftParenthesis) >= count(TokenKind::RightParenthesis) + 2;
+    let opened = before.last().is_some_and(|token| token.kind == TokenKind::LeftParenthesis);
+    let first = before.get(3).is_some_and(|minor| text(source, *minor) == "1");
+    first && inside && opened && text(source, tag) == "arrow"
 }
 
 fn reserved(source: &[u8], at: usize) -> String {
@@ -115,7 +130,8 @@ fn version(source: &[u8]) -> Told {
     let head: Vec<Token> = tokens(source).take(4).filter_map(Result::ok).collect();
     let [_, _, first, second] = head[..] else { return (None, Class::Version.to_string()) };
     let given = format!("{} {}", text(source, first), text(source, second));
-    (Some(first.start), format!("the source has version {given}, and 0 1 alone is known; see what it was written for"))
+    let why = format!("the source has version {given}, and 0 1 and 0 2 alone are known");
+    (Some(first.start), format!("{why}; see what it was written for"))
 }
 
 /// The first declaration whose name an earlier one has.
