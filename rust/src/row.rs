@@ -7,7 +7,8 @@ use core::fmt;
 /// Fields that are terms are the numbers of their rows, all lower than the row's own. A var's count says how many
 /// binders stand between the reference and the one that binds it, 0 for the innermost; a pi and a sigma bind in their
 /// codomain, a lam in its body. A pi may be an arrow of the source, which binds no name and counts all the same. A
-/// global's place is that of a declaration, from 0. A universe's numeral may have any number of digits. Where the term starts in the source is told by [`Loaded::offset`](crate::Loaded::offset).
+/// global's place is that of a declaration, from 0. A universe's numeral may have any number of digits. Where the term
+/// starts in the source is told by [`Loaded::offset`](crate::Loaded::offset).
 ///
 /// A row is shown as in the listing: the kind's word, then count, place, digits or children.
 #[derive(Clone, Copy, Debug, Eq, Hash, PartialEq)]
