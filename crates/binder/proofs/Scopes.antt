@@ -1,4 +1,4 @@
--- Where a row of a loaded source stands: its declaration, its type or body, and its place there, with the names in scope.
+-- Where a row of a loaded source stands: its declaration, its type or body, and its place there, with the local binders.
 use Prim.Native.Nat.{ℕ, zero, suc, _+_, _*_, _≤_, _<_, max}
 use mathlib.Core.Path.{_≡_, refl, sym, _∙_, ap, ap₂}
 use mathlib.Core.List.{List, [], _∷_, map, append-nil}
@@ -134,7 +134,7 @@ module _ (s surface declarations : List ℕ) (rows k : ℕ) where
           ∙ word 4 (omega arith) ∙ second c f ∙ ap (λ (i : ℕ). getD (roots n (trees x)) i 0) (sym f)
       go (suc (suc m)) h c f = absurd (omega arith)
 
-  -- The term that has row k, and the names in scope there.
+  -- The term that has row k, and the local binders there.
   pub record There (ds : List Declaration) : Type 0 where
     pub term : Standing s ds k
     pub its-number : declaration-with declarations (length ds) k ≡ term .number

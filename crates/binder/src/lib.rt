@@ -1,4 +1,4 @@
-// The question of document 02, Req 04: a source is loaded, and what binds the reference at a row is looked up in the names in scope there.
+// The question of document 02, Req 04: a source is loaded, and what binds the reference at a row is looked up among the local binders there.
 use binding::Binding;
 use loader::clear_all;
 use loader::nowhere_12;

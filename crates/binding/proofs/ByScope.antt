@@ -29,7 +29,7 @@ of-other l g t e = rw (ne-eqb (t .kind) ref e, referent-of) refl
 
 module _ (s : List ℕ) (ds : List Declaration) (k : ℕ) where
   module _ (w : Standing s ds k) where
-    -- The names in scope at the term, with the rows of what binds them, and the names of the earlier declarations.
+    -- The local binders at the term, with the rows of their forms, and the names of the earlier declarations.
     abbrev pub locals-there : List Local
     locals-there = located (w .first) (w .place) (w .whole)
 

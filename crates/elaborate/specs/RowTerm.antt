@@ -42,7 +42,7 @@ unfoldable pub and-then : TermOutcome → (List ℕ → TermOutcome) → TermOut
 and-then (done c) f = f c
 and-then (unknown-at a n) f = unknown-at a n
 
--- The arguments in order, with R for one of them; `locals i` are the local names in argument i.
+-- The arguments in order, with R for one of them; `locals i` are the local binders in argument i.
 unfoldable pub arguments : (ℕ → Locals → List ℕ → TermOutcome) → (ℕ → Locals) → List ℕ → List ℕ → TermOutcome
 arguments R locals [] core = done core
 arguments R locals (id ∷ ids) core = and-then (R id (locals zero) core) (λ c. arguments R (λ i. locals (suc i)) ids c)

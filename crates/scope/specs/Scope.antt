@@ -1,4 +1,4 @@
--- Document 01, "The core module": the names in scope, as the work area and the declaration records hold them.
+-- Document 01, "The core module": the local binders and the declared names, as the work area and the declaration records hold them.
 use Prim.Native.Nat.{ℕ, zero, suc, _+_, _*_, _≤_}
 use mathlib.Core.List.{List, [], _∷_, map}
 use mathlib.Core.Option.{Option, none, some}

@@ -1,4 +1,4 @@
--- To be bound by binders at the same place is to be bound by local names of the same number.
+-- To be bound by binders at the same place is to be bound by local binders of the same number.
 use mathlib.Core.Path.{_≡_, refl, sym, ap, _∙_}
 use mathlib.Core.Logic.{inl, inr}
 use mathlib.Core.List.{List, [], _∷_, _++_, map, tail-eq-of-cons-eq, append-nil}

@@ -1,4 +1,4 @@
--- Equal cores are terms that agree by the numbers of their local names.
+-- Equal cores are terms that agree by the numbers of their local binders.
 use mathlib.Core.Path.{_≡_, refl, sym, ap, _∙_, subst₂}
 use mathlib.Core.Logic.{_⊎_, inl, inr, by-cases}
 use mathlib.Core.List.{List, [], _∷_}
