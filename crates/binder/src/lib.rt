@@ -1,4 +1,6 @@
 // The question of document 02, Req 04: a source is loaded, and what binds the reference at a row is looked up among the local binders there.
+#![tactic(auto)]
+
 ghost use Rattle.std.specs.Prelude.{◌≡◌, ◌&&◌, List, [], ℕ, ◌*◌, ◌+◌, ◌<◌, ◌≤◌, ltb, eqb, get_or, length};
 ghost use Rattle.surface.specs.Tables.{tables};
 ghost use Rattle.binding.specs.Binds.{AsksBinder};

@@ -1,5 +1,7 @@
 // Whether a core text has the layout of its own print, by one scan of its tokens. It takes the place of the print in the last test of
 // `parse_canonical` in format/parser.rs. Document 02, Req 03.
+#![tactic(auto)]
+
 ghost use Rattle.std.specs.Prelude.{◌≡◌, [], ◌∷◌, ◌-◌, ◌≤◌, length};
 ghost use Rattle.words.specs.Words.{same_bytes};
 ghost use Rattle.terms.specs.Label.{part};

@@ -1,5 +1,7 @@
 // Reading core texts: a text is read, its names are tested, and every lent table is left as document 02 says, after refusals too.
 // The port of `parse_transport` and `parse_canonical` in format/parser.rs. Document 02, Req 03.
+#![tactic(auto)]
+
 ghost use Rattle.std.specs.Prelude.{◌≡◌, cond, [], ◌*◌, eqb};
 ghost use Rattle.surface.specs.Reader.{start};
 ghost use Rattle.surface.specs.Tables.{tables, lengths};

@@ -1,5 +1,7 @@
 // Whether two declarations of a core text have one name. The port of `names.insert(..)` in `parse_module`, format/parser.rs.
 // Document 02, Req 03.
+#![tactic(auto)]
+
 ghost use Rattle.std.specs.Prelude.{◌≡◌, false, List, [], ◌+◌, ◌*◌, ◌≤◌, length, take};
 ghost use Rattle.terms.specs.Label.{Declaration};
 ghost use Rattle.terms.specs.Rows.{read_records, joined};

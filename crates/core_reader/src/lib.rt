@@ -1,5 +1,7 @@
 // The reader of core texts: the head, the declarations by the reader of sources, and the end, into lent tables of rows and records.
 // The port of `parse_module` in format/parser.rs. Document 02, Req 03.
+#![tactic(auto)]
+
 ghost use Rattle.std.specs.Prelude.{◌≡◌, ◌&&◌, ◌/◌, length};
 ghost use Rattle.token.specs.Classes.{ClassTable};
 ghost use Rattle.words.specs.Words.{ascii, same_bytes};

@@ -1,5 +1,7 @@
 // The tokens of core text: layout, parentheses, atoms, strings, refused bytes and the end. There are no comments.
 // The port of `Lexer` in format/parser.rs. Document 02, Req 03.
+#![tactic(auto)]
+
 ghost use Rattle.std.specs.Prelude.{◌≡◌, ◌||◌, ◌<◌, eqb, drop};
 ghost use Rattle.token.specs.Token.{token, malformed};
 ghost use Rattle.core_token.specs.CoreToken.{core_class, string_class, core_atom_from, closed, nothing, string_from, next_core_token};

@@ -1,5 +1,7 @@
 // The dependence question of document 01, as document 02, Req 05 and 09 amend it: a source is loaded, the places that show one declaration are
 // marked in the work area in one pass upwards, and the rows of the other are searched for the first that names a marked place.
+#![tactic(auto)]
+
 ghost use Rattle.std.specs.Prelude.{◌≡◌, ◌&&◌, ltb, ◌-◌};
 ghost use Rattle.dependence.specs.declared.Dependence as Dependence;
 ghost use Rattle.dependence.specs.Asks.{Asks};

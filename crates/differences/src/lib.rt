@@ -1,4 +1,6 @@
 // The first place where two equally long names differ: the search under the comparison of names. Document 02, Req 02.
+#![tactic(auto)]
+
 ghost use Rattle.std.specs.Prelude.{◌≡◌, ◌+◌, ◌≤◌, length};
 ghost use Rattle.differences.specs.Differences.{first_difference};
 ghost use Rattle.differences.specs.inner.Digits.{digits};

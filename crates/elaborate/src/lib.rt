@@ -1,5 +1,7 @@
 // Names become numbers: each core row is written at its surface row's number, with a var or a global for each reference.
 // The port of `elaborate_surface` and `elaborate_term` in surface/elaborate.rs. Document 01, "The core module".
+#![tactic(auto)]
+
 ghost use Rattle.std.specs.Prelude.{◌≡◌, List, [], ◌∷◌, ◌++◌, ◌+◌, ◌-◌, ◌*◌, ◌<◌, ◌≤◌, length, get_or, take};
 ghost use Rattle.terms.specs.Forms.{ref, arity_of};
 ghost use Rattle.terms.specs.Label.{Declaration};

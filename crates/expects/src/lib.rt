@@ -1,5 +1,7 @@
 // What must stand next: a parenthesis, a word, a numeral, a name, a term's beginning, the head.
 // The port of `Parser::next_atom`, `expect_*`, `parse_natural`, `parse_identifier` and of what `parse_term` and `parse_module` begin with.
+#![tactic(auto)]
+
 ghost use Rattle.std.specs.Prelude.{◌≡◌, ◌≤◌, ◌<◌, length};
 ghost use Rattle.token.specs.Classes.{ClassTable, NameAt};
 ghost use Rattle.terms.specs.Forms.{forms, forms_0_2, form_of_word};

@@ -1,4 +1,6 @@
 // Open frames in the work area: eleven words a frame, from word 0 on. The port of `TermFrame` in surface/parser.rs.
+#![tactic(auto)]
+
 ghost use Rattle.std.specs.Prelude.{◌≡◌, ◌+◌, ◌*◌, ◌<◌, get_or};
 ghost use Rattle.frames.specs.Frames.{HasFrame, frame_label, frame_args, frame_count, term_frame, frame_at, opened, pushed};
 

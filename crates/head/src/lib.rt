@@ -1,5 +1,7 @@
 // The question of document 02, Req 07: the module's name, from the head of a source. No table is lent, and of a longer source no more than
 // the first 65,535 bytes are looked at.
+#![tactic(auto)]
+
 ghost use Rattle.std.specs.Prelude.{◌≡◌, ◌≤◌, ◌<◌, length, take};
 ghost use Rattle.token.specs.Classes.{ClassTable};
 ghost use Rattle.utf8.specs.Utf8.{valid_length};

@@ -1,4 +1,6 @@
 // The words of the terms' kinds, in a core row's numbering: one table for the listing and for core text.
+#![tactic(auto)]
+
 ghost use Rattle.std.specs.Prelude.{◌≡◌};
 ghost use Rattle.terms.specs.Label.{part};
 ghost use Rattle.kind_words.specs.KindWords.{words, word_of_kind, field_count};

@@ -1,5 +1,7 @@
 // The listing's text, written into a lent buffer. Document 01, "The listing".
 // Every function is total: a word behind a table's end is 0, and a part of the source ends with the source.
+#![tactic(auto)]
+
 ghost use Rattle.std.specs.Prelude.{◌≡◌, ◌+◌, ◌*◌, length, get_or, drop};
 ghost use Rattle.std.proofs.lemmas.List.Edits.{sets};
 ghost use Rattle.terms.specs.Label.{part};

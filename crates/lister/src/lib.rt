@@ -1,5 +1,7 @@
 // The listing of document 01 for a source, with every table lent and the text written into a lent buffer: the core module that loading leaves,
 // or the refusal.
+#![tactic(auto)]
+
 ghost use Rattle.std.specs.Prelude.{◌≡◌, length};
 ghost use Rattle.text.specs.Text.{with_text, length_in};
 ghost use Rattle.surface.specs.Tables.{tables};

@@ -1,4 +1,6 @@
 // The listing of document 01: reads standard input and prints the core module that loading leaves, or the refusal.
+#![tactic(auto)]
+
 mod standard;
 
 ghost use Rattle.listing.specs.Program.{Written};

@@ -1,5 +1,7 @@
 // Loading: a source is read, its names are resolved, and every lent table is left as document 01 says, after refusals too.
 // The port of `parse_surface` followed by `elaborate_surface`.
+#![tactic(auto)]
+
 ghost use Rattle.std.specs.Prelude.{◌≡◌, ◌*◌, ◌≤◌, length, List, []};
 ghost use Rattle.surface.specs.Reader.{start, nowhere, at_offset};
 ghost use Rattle.surface.specs.Loading.{tables, parsing, Loads};

@@ -1,5 +1,7 @@
 // The reader of terms and declarations: a loop over a state by value, with rows and open frames in lent tables.
 // The port of `Parser` in surface/parser.rs.
+#![tactic(auto)]
+
 ghost use Rattle.std.specs.Prelude.{◌≡◌, true, false, ◌<◌, ◌≤◌, length};
 ghost use Rattle.token.specs.Classes.{ClassTable};
 ghost use Rattle.expects.specs.Formats.{edition};

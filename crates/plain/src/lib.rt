@@ -21,6 +21,8 @@
 //   the completed term's row          store           store_term            parser::push_term
 //
 // Both give the same rows, counts, refusals and tables: their promises are one statement. Document 02, Req 11.
+#![tactic(auto)]
+
 ghost use Rattle.std.specs.Prelude.{◌≡◌, ◌≤◌, ◌<◌, length, take};
 ghost use Rattle.token.specs.Classes.{ClassTable};
 ghost use Rattle.terms.specs.Forms.{arity_of, form_of_word, holds_span_in};

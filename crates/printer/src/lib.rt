@@ -1,5 +1,7 @@
 // The core text of a source: it is loaded, and its text is written from the core table and the declaration list, from the text's end to its
 // beginning. The port of `print_canonical` in format/printer.rs. Document 02, Req 03.
+#![tactic(auto)]
+
 ghost use Rattle.std.specs.Prelude.{◌≡◌, List, [], ◌∷◌, ℕ, ◌+◌, ◌-◌, ◌*◌, ◌≤◌, length, take, drop};
 ghost use Rattle.tables.specs.Tables.{cleared};
 ghost use Rattle.terms.specs.Forms.{arity_of};

@@ -1,4 +1,6 @@
 // The core text of a source: what printing it answers and leaves. Definitions and theorems alone.
+#![tactic(auto)]
+
 use token::Refusal;
 
 // The answer of printing: the text's length, or the refusal.

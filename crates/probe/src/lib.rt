@@ -1,4 +1,6 @@
 // The inner layers as plain numbers, for tests in Rust to link: `rt staticlib probe`.
+#![tactic(auto)]
+
 ghost use Rattle.std.specs.Prelude.{◌≡◌};
 ghost use Rattle.token.specs.Token.{next_token};
 ghost use Rattle.words.specs.Words.{same_bytes, word_index, numeral, name_test};

@@ -1,5 +1,7 @@
 // The reader of modules: the head, then declarations to the end, into lent tables of rows and records.
 // The port of `parse_module` and `parse_declaration_after_lparen` in surface/parser.rs. The declarations of every format have one reader.
+#![tactic(auto)]
+
 ghost use Rattle.std.specs.Prelude.{◌≡◌, [], ◌∷◌, ◌-◌, ◌/◌, ◌≤◌, ◌<◌, length};
 ghost use Rattle.token.specs.Classes.{ClassTable};
 ghost use Rattle.surface.specs.Reader.{start};

@@ -1,6 +1,8 @@
 // Asks of two sources and two core texts with the declaration list lent as a slice of records, and prints the answer and the first three
 // records of the list: 01's input of the listing, which is loaded, read and asked about a dependence and about what binds its references,
 // whose core text is printed and read again; a source that is refused; and a core text that is not what would be printed for it.
+#![tactic(auto)]
+
 ghost use Rattle.std.specs.Prelude.{◌≡◌};
 ghost use Rattle.record_list.specs.Left.{Left, used};
 

@@ -1,6 +1,8 @@
 // The declaration list as a slice of records, document 01's "the declaration list is lent as a slice of records".
 // The borrow checker covers no function that has such a slice, so those here are few and thin, and proved by hand. What they
 // call stands over words and is covered.
+#![tactic(auto)]
+
 ghost use Rattle.std.specs.Prelude.{◌≡◌, length, get_or, set};
 ghost use Rattle.records.specs.Records.{blank, record_at, record_put, records_of, words_of, word_limit};
 

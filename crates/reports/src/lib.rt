@@ -1,4 +1,6 @@
 // An answer as plain numbers, and how the library's functions tell them.
+#![tactic(auto)]
+
 ghost use Rattle.std.specs.Prelude.{◌≡◌, [], ◌∷◌, ◌++◌};
 ghost use Rattle.dependence.specs.Asks.{report_dependence};
 ghost use Rattle.surface.specs.Reports.{offsets, report_refusal, report, token_number, report_token};

@@ -1,6 +1,8 @@
 // Rows of eight words and declaration records of five: what each word is, storing them at a place of a lent table, the part of the
 // source that a row or record names, and the rows of a declaration.
 // The port of `TermFrameKind::arity` and `TermFrame::into_term` in surface/parser.rs. Document 01, "The module read", "The core module".
+#![tactic(auto)]
+
 ghost use Rattle.std.specs.Prelude.{◌≡◌, cond, [], ◌∷◌, ◌++◌, ◌+◌, ◌*◌, get_or, take};
 ghost use Rattle.terms.specs.Forms.{counts_as, arity_of, holds_span, holds_span_in};
 ghost use Rattle.terms.specs.Label.{part};

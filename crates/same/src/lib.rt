@@ -1,4 +1,6 @@
 // The same-core question: whether two sources leave the same core, and otherwise where they part. Ours, beyond document 01.
+#![tactic(auto)]
+
 ghost use Rattle.std.specs.Prelude.{◌≡◌, ◌+◌, ◌*◌, ◌≤◌, ◌<◌, length};
 ghost use Rattle.tables.specs.Tables.{cleared};
 ghost use Rattle.surface.specs.Tables.{tables, lengths};

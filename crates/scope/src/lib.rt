@@ -1,5 +1,7 @@
 // What a name refers to: a local, the innermost first, or else an earlier declaration. Names are parts of the source, compared by bytes.
 // The port of the lookups in `elaborate_term`, surface/elaborate.rs. Document 01, "The core module".
+#![tactic(auto)]
+
 ghost use Rattle.std.specs.Prelude.{◌≡◌, ℕ, ◌+◌, ◌*◌, ◌<◌, ◌≤◌, length, List};
 ghost use Rattle.words.specs.Words.{same_bytes};
 ghost use Rattle.terms.specs.Label.{part};

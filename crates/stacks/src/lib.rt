@@ -1,5 +1,7 @@
 // The stacks of `elaborate_term` in the lent work area: local binders, values and work items, each with a part of the 16,384 words.
 // The port of `Work`, `push_work`, `push_value` and `pop_values` in surface/elaborate.rs.
+#![tactic(auto)]
+
 ghost use Rattle.std.specs.Prelude.{◌≡◌, cond, ◌∷◌, ◌+◌, ◌<◌, ◌≤◌, eqb, drop};
 ghost use Rattle.terms.specs.Forms.{arrow};
 ghost use Rattle.terms.specs.Rows.{pad};

@@ -1,4 +1,6 @@
 // The least storage for a source: the frame reader reads it, and nothing is stored. Document 02, Req 08.
+#![tactic(auto)]
+
 ghost use Rattle.std.specs.Prelude.{◌≡◌, length};
 ghost use Rattle.least_storage.specs.Storage.{storage, Stores};
 

@@ -1,4 +1,6 @@
 // The lent tables of words: one word read, a run of words stored, the rest cleared. Rows, records and frames are runs of words.
+#![tactic(auto)]
+
 ghost use Rattle.std.specs.Prelude.{◌≡◌, ◌+◌, ◌≤◌, length, get_or};
 ghost use Rattle.tables.specs.Tables.{fits, with_words, stored, cleared};
 

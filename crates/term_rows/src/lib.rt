@@ -1,4 +1,6 @@
 // What both readers of terms share: the answer for a term, the bounds within which one is read, and the row of one that was read.
+#![tactic(auto)]
+
 ghost use Rattle.std.specs.Prelude.{◌≡◌, max, take};
 ghost use Rattle.terms.specs.Forms.{holds_span_in};
 ghost use Rattle.terms.specs.Rows.{row_holding};

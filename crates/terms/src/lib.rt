@@ -1,6 +1,8 @@
 // Terms with names, what their references mean, and their rows: definitions and theorems, and the record that is kept of a term.
 
 // A term's kind, the start and length of its name, numeral or binder, and its first byte's offset.
+#![tactic(auto)]
+
 #[derive(Drop)]
 pub struct Label {
     pub kind: u32,

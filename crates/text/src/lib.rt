@@ -1,4 +1,6 @@
 // Text written into a lent buffer, piece by piece. A text that does not fit is cut, and its length is told as one more than the buffer's.
+#![tactic(auto)]
+
 ghost use Rattle.std.specs.Prelude.{◌≡◌, [], ◌∷◌, ◌+◌, length};
 ghost use Rattle.std.proofs.lemmas.List.Edits.{sets};
 ghost use Rattle.text.specs.Text.{length_in, digits, decimal};

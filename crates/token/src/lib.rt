@@ -1,5 +1,7 @@
 // The token: layout, comments, parentheses, atoms, refused bytes and the end.
 // The port of `Lexer` in surface/parser.rs. Document 01, "The token".
+#![tactic(auto)]
+
 mod byte_classes;
 
 ghost use Rattle.std.specs.Prelude.{◌≡◌, false, ◌+◌, ◌≤◌, ◌<◌, length, take, drop, get_or};

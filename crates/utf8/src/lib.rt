@@ -1,4 +1,6 @@
 // Whether a source is UTF-8, and whether it begins with EF BB BF: what `parse_surface` asks of the standard library.
+#![tactic(auto)]
+
 ghost use Rattle.std.specs.Prelude.{◌≡◌, ◌+◌, ◌≤◌, length, take, drop};
 ghost use Rattle.utf8.specs.Utf8.{range, in_range, valid_length, byte_order_mark};
 ghost use Rattle.utf8.specs.Sequences.{second, sequence, First, Pairs};

@@ -1,5 +1,7 @@
 // Atoms as words, each a part of the source: reserved words, identifiers, numerals, and equal names.
 // The port of `is_reserved`, `is_identifier` and the test of `parse_natural` in surface/parser.rs. Document 01, "The token".
+#![tactic(auto)]
+
 ghost use Rattle.std.specs.Prelude.{◌≡◌, cond, ◌≤◌, ◌<◌, length};
 ghost use Rattle.token.specs.Token.{digit};
 ghost use Rattle.words.specs.Words.{same_bytes, word_index, reserved, name_start, name_byte, identifier, numeral, name_test};

@@ -3,12 +3,8 @@ use mathlib.Core.Path.{refl}
 use Rattle.token.specs.Token.{byte_class}
 use Rattle.token.specs.Classes.{class_number}
 use Rattle.token.proofs.ClassTable.{all_right, class_table}
-use Rattle.token.proofs.class_table.Statement.{statement}
-use Rattle.token.proofs.class_table.Tie as tie
+use Rattle.token.proofs.class_table.Goals as goal
 
-returns : tie.Need-returns
+pub returns : goal.returns
 unfolding all_right class_number byte_class
 returns c = class_table _ refl refl
-
-pub class-table-spec : {M : Type 1} → statement M
-class-table-spec = tie.close (tie.spec returns)
