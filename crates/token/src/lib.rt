@@ -12,7 +12,7 @@ ghost use Rattle.token.specs.Comments.{every, no_end, comment_end, SameComment};
 use byte_classes::CLASSES;
 
 // What a byte is for.
-#[derive(Drop)]
+#[derive(Clone, Copy)]
 pub enum ByteClass {
     Layout,
     Comment,
@@ -23,7 +23,7 @@ pub enum ByteClass {
 }
 
 // A string is a token of core text alone.
-#[derive(Drop)]
+#[derive(Clone, Copy)]
 pub enum TokenKind {
     LParen,
     RParen,
@@ -33,27 +33,27 @@ pub enum TokenKind {
 }
 
 // The bytes from `start` up to `end`; the end token has none.
-#[derive(Drop)]
+#[derive(Clone, Copy)]
 pub struct Token {
     pub kind: TokenKind,
     pub start: usize,
     pub end: usize,
 }
 
-#[derive(Drop)]
+#[derive(Clone, Copy)]
 pub enum Place {
     At(usize),
     Nowhere,
 }
 
 // Why a source is refused: document 01's number, and where.
-#[derive(Drop)]
+#[derive(Clone, Copy)]
 pub struct Refusal {
     pub class: u8,
     pub place: Place,
 }
 
-#[derive(Drop)]
+#[derive(Clone, Copy)]
 pub enum Lexed {
     Got(Token),
     Refused(Refusal),
