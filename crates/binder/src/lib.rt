@@ -27,7 +27,7 @@ const REF: u32 = 24;
 const FORMS: usize = 512;
 
 // A row on the way down to another, and how many local binders there are.
-#[derive(Drop)]
+#[derive(Clone, Copy)]
 struct Way {
     row: u32,
     locals: usize,

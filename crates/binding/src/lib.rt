@@ -5,7 +5,7 @@ use token::Refusal;
 
 // A local, with how many binders stand between the reference and the one that binds it, and the row of that binder's form; the place of a
 // declaration; or the refusal.
-#[derive(Drop)]
+#[derive(Clone, Copy)]
 pub enum Binding {
     Local { count: usize, row: usize },
     Global { place: usize },

@@ -16,14 +16,14 @@ use reader::{DeclarationsRead, Limits, Method, ModuleRead};
 use token::{Lexed, Refusal, Token};
 
 // Whether a version is 0 1, and where reading goes on.
-#[derive(Drop)]
+#[derive(Clone, Copy)]
 enum VersionRead {
     Got(bool, usize),
     Refused(Refusal),
 }
 
 // Where reading goes on.
-#[derive(Drop)]
+#[derive(Clone, Copy)]
 enum Passed {
     At(usize),
     Refused(Refusal),

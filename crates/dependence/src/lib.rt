@@ -4,7 +4,7 @@
 use token::Refusal;
 
 // The first row that shows it, for a yes; a no; or the refusal.
-#[derive(Drop)]
+#[derive(Clone, Copy)]
 pub enum Dependence {
     Yes { row: usize },
     No,

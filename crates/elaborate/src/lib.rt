@@ -36,14 +36,14 @@ const RECORD: usize = 5;
 const FEW: usize = 16;
 
 // How many work items, values and local binders there are.
-#[derive(Drop)]
+#[derive(Clone, Copy)]
 struct State {
     works: usize,
     values: usize,
     locals: usize,
 }
 
-#[derive(Drop)]
+#[derive(Clone, Copy)]
 enum WorkStep {
     Go(State),
     Unknown { start: u32, length: u32 },
@@ -60,14 +60,14 @@ fn nameless() -> WorkStep
 }
 
 // A term is resolved, or this reference is unknown.
-#[derive(Drop)]
+#[derive(Clone, Copy)]
 enum TermDone {
     Done,
     Unknown { start: u32, length: u32 },
 }
 
 // Every declaration is resolved, or this name is refused with this class: 4 where an earlier declaration has it, 5 where nothing has it.
-#[derive(Drop)]
+#[derive(Clone, Copy)]
 pub enum Elaborated {
     Done,
     Refused { class: u8, start: u32, length: u32 },

@@ -22,7 +22,7 @@ use token::{Lexed, Place, Refusal, Token, TokenKind};
 use words::NameTest;
 
 // The formats that are read: what their tokens are, which words are reserved and which have a form.
-#[derive(Drop)]
+#[derive(Clone, Copy)]
 pub enum Format {
     Surface01,
     Surface02,
@@ -30,7 +30,7 @@ pub enum Format {
 }
 
 // What a term begins with, and where reading goes on: the whole of a term without arguments, or a frame.
-#[derive(Drop)]
+#[derive(Clone, Copy)]
 pub enum Begun {
     Leaf(Label, usize),
     Frame(Label, usize),
@@ -38,28 +38,28 @@ pub enum Begun {
 }
 
 // The format of a source by its version, and where reading goes on.
-#[derive(Drop)]
+#[derive(Clone, Copy)]
 pub enum EditionRead {
     Known(Format, usize),
     Refused(Refusal),
 }
 
 // The format, the module's name, and where reading goes on.
-#[derive(Drop)]
+#[derive(Clone, Copy)]
 pub enum HeadRead {
     Name(Format, Token, usize),
     Refused(Refusal),
 }
 
 // A declaration's name, and where reading goes on behind it.
-#[derive(Drop)]
+#[derive(Clone, Copy)]
 pub enum NameRead {
     Got(Token, usize),
     Refused(Refusal),
 }
 
 // The form of a word. Its shape: 0 none, 1 WORD, 2 (WORD NAME), 3 (WORD NUMERAL), 4 (WORD NAME T .. T), 5 (WORD T .. T).
-#[derive(Drop)]
+#[derive(Clone, Copy)]
 pub struct FormOfWord {
     pub kind: u32,
     pub shape: u8,

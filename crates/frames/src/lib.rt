@@ -10,7 +10,7 @@ use terms::Label;
 const FRAME: usize = 11;
 
 // A form that is open: what is kept of it, the rows of its arguments, and how many of these are complete.
-#[derive(Drop)]
+#[derive(Clone, Copy)]
 pub struct TermFrame {
     pub label: Label,
     pub args: [u32; 6],

@@ -10,7 +10,7 @@ pub const WORDS: [u8; 104] =
     *b"varglobaluniversepilamappsigmapairfstsndidrefljemptyempty-elimunitstarunit-elimnatzerosuccnat-elimannref";
 
 // Start and length of a kind's word in WORDS, and how many numbers stand behind the word in a row's line of the listing.
-#[derive(Drop)]
+#[derive(Clone, Copy)]
 pub struct Kind(pub u8, pub u8, pub u8);
 
 const KINDS: [Kind; 26] = [

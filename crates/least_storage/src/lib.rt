@@ -4,7 +4,7 @@
 use token::Refusal;
 
 // How many rows, declarations and open frames a source needs; or the refusal.
-#[derive(Drop)]
+#[derive(Clone, Copy)]
 pub enum Storage {
     Needs {
         rows: usize,

@@ -9,14 +9,14 @@ ghost use Rattle.lexer.specs.Lexing.{offset_or, position_after, step_at};
 
 use token::{Lexed, Place};
 
-#[derive(Drop)]
+#[derive(Clone, Copy)]
 pub struct Lexer<'a> {
     pub input: &'a [u8],
     pub pos: usize,
 }
 
 // What is read at a position, and the position behind it.
-#[derive(Drop)]
+#[derive(Clone, Copy)]
 pub struct Stepped {
     pub lexed: Lexed,
     pub pos: usize,

@@ -11,7 +11,7 @@ use reader::Method;
 use surface::Answer;
 
 // What loading answers, and the length of the text.
-#[derive(Drop)]
+#[derive(Clone, Copy)]
 pub struct Listed {
     pub answer: Answer,
     pub length: usize,

@@ -6,7 +6,7 @@ ghost use Rattle.listing.specs.Moved.{Within, Read};
 use libc::{STDIN_FILENO, STDOUT_FILENO};
 
 // What a call did: it moved bytes up to an offset, it moved nothing, a signal came first, or it failed, and errno says why.
-#[derive(Drop)]
+#[derive(Clone, Copy)]
 enum Transfer {
     To(usize),
     Nothing,
@@ -15,7 +15,7 @@ enum Transfer {
 }
 
 // What was read: so many bytes, up to the end of the input or of the buffer; or the call that failed left no source.
-#[derive(Drop)]
+#[derive(Clone, Copy)]
 pub enum Input {
     Bytes(usize),
     Failed,

@@ -40,7 +40,7 @@ fn malformed(at: usize) -> Refusal
 }
 
 // What is tested of a source before it is read: nothing stands against reading it, or it is refused.
-#[derive(Drop)]
+#[derive(Clone, Copy)]
 pub enum Tested {
     Readable,
     Refused(Refusal),

@@ -4,7 +4,7 @@
 use token::Refusal;
 
 // Where the name stands in the source, and how many bytes it has; or the refusal.
-#[derive(Drop)]
+#[derive(Clone, Copy)]
 pub enum ModuleName {
     Named { start: usize, length: usize },
     Refused(Refusal),

@@ -20,7 +20,7 @@ const AREA: usize = 5632;
 
 // Between two steps of reading a term: where reading goes on, how many rows are stored, how many frames are open and how many
 // were at most, and whether a term has just been completed, with its row.
-#[derive(Drop)]
+#[derive(Clone, Copy)]
 pub struct State {
     pub at: usize,
     pub rows: usize,
@@ -30,7 +30,7 @@ pub struct State {
     pub have: bool,
 }
 
-#[derive(Drop)]
+#[derive(Clone, Copy)]
 pub enum TermStep {
     Go(State),
     Refused(Refusal),

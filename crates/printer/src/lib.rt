@@ -23,7 +23,7 @@ use tables::{clear_from, word_at};
 use token::{Place, Refusal};
 
 // How far the text is: so many of its bytes stand at the buffer's end, and so many frames at the work area's end.
-#[derive(Drop)]
+#[derive(Clone, Copy)]
 struct Marks {
     at: usize,
     top: usize,
@@ -179,7 +179,7 @@ fn open_frames(work: &mut [u32], out: &mut [u8], marks: Marks) -> Marks
 }
 
 // The first three words of a core row or of a declaration record.
-#[derive(Drop)]
+#[derive(Clone, Copy)]
 struct Row {
     kind: u32,
     a: u32,

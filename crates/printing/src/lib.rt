@@ -4,7 +4,7 @@
 use token::Refusal;
 
 // The answer of printing: the text's length, or the refusal.
-#[derive(Drop)]
+#[derive(Clone, Copy)]
 pub enum Printed {
     Text { length: usize },
     Refused(Refusal),

@@ -17,21 +17,21 @@ use term_rows::TermRead;
 use token::{Lexed, Refusal, Token, TokenKind};
 
 // The two readers of terms, either of which may stand in a station: the quick one by frames in the work area, and the plain one by calls.
-#[derive(Drop)]
+#[derive(Clone, Copy)]
 pub enum Method {
     Frames,
     Plain,
 }
 
 // How many rows and declarations there is room for.
-#[derive(Drop)]
+#[derive(Clone, Copy)]
 pub struct Limits {
     pub rows: usize,
     pub declarations: usize,
 }
 
 // A declaration that was read: how many rows are stored, where reading goes on, and how many frames were open at most; or the refusal.
-#[derive(Drop)]
+#[derive(Clone, Copy)]
 pub enum DeclarationRead {
     Done {
         rows: usize,
@@ -42,7 +42,7 @@ pub enum DeclarationRead {
 }
 
 // What stands next in a module: a declaration, with the same numbers; the end, and where reading goes on behind it; or the refusal.
-#[derive(Drop)]
+#[derive(Clone, Copy)]
 enum ModuleStep {
     Declared {
         rows: usize,
@@ -57,7 +57,7 @@ enum ModuleStep {
 
 // Declarations that were read: how many rows and declarations are stored, where reading goes on, and how many frames were open at most
 // in one term; or the refusal.
-#[derive(Drop)]
+#[derive(Clone, Copy)]
 pub enum DeclarationsRead {
     Done {
         rows: usize,
@@ -69,7 +69,7 @@ pub enum DeclarationsRead {
 }
 
 // A module that was read: how many rows and declarations it has, and how many frames were open at most in one term; or the refusal.
-#[derive(Drop)]
+#[derive(Clone, Copy)]
 pub enum ModuleMeasured {
     Done {
         rows: usize,
@@ -80,7 +80,7 @@ pub enum ModuleMeasured {
 }
 
 // A module that was read: how many rows and declarations are stored; or the refusal.
-#[derive(Drop)]
+#[derive(Clone, Copy)]
 pub enum ModuleRead {
     Done { rows: usize, declarations: usize },
     Refused(Refusal),

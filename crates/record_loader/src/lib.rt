@@ -14,7 +14,7 @@ use reader::{Method, ModuleRead};
 use records::Declaration;
 use surface::Answer;
 
-#[derive(Drop)]
+#[derive(Clone, Copy)]
 pub enum Question {
     Load(Method),
     Parse(Method),
@@ -25,7 +25,7 @@ pub enum Question {
     Binder(usize),
 }
 
-#[derive(Drop)]
+#[derive(Clone, Copy)]
 pub enum Reply {
     Loaded(Answer),
     Parsed(ModuleRead),

@@ -8,7 +8,7 @@ ghost use Rattle.records.specs.Records.{blank, record_at, record_put, records_of
 
 // The five words of a declaration record.
 #[repr(C)]
-#[derive(Drop)]
+#[derive(Clone, Copy)]
 pub struct Declaration {
     pub kind: u32,
     pub name_start: u32,

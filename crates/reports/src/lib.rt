@@ -24,7 +24,7 @@ use surface::Answer;
 use token::{Lexed, Place, Refusal, TokenKind};
 
 // What a call answers; then how many values follow, and these, and 0 behind them.
-#[derive(Drop)]
+#[derive(Clone, Copy)]
 pub struct Numbers {
     pub number: u8,
     pub count: u64,

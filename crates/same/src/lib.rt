@@ -13,7 +13,7 @@ use surface::Answer;
 use tables::{clear_from, word_at};
 use token::Refusal;
 
-#[derive(Drop)]
+#[derive(Clone, Copy)]
 pub enum Comparison {
     Same,
     Different { declaration: usize },

@@ -41,28 +41,28 @@ const SHARE: usize = NUMBERS / HEADS;
 const LOW_BITS: usize = 20;
 
 // The number of a name in a list of names, counted from 0.
-#[derive(Drop)]
+#[derive(Clone, Copy)]
 enum Found {
     At(u32),
     Nothing,
 }
 
 // A name in scope: how many binders stand inside of it, and the row of the form that binds it.
-#[derive(Drop)]
+#[derive(Clone, Copy)]
 enum FoundLocal {
     At { count: u32, row: u32 },
     Nothing,
 }
 
 // The place of a declaration with a name, or the slot of the index where its name would go.
-#[derive(Drop)]
+#[derive(Clone, Copy)]
 pub enum Slot {
     Held(u32),
     Free(usize),
 }
 
 // What a name refers to: a local, with the row of the form that binds it, or a declaration's place.
-#[derive(Drop)]
+#[derive(Clone, Copy)]
 pub enum Referent {
     Var { count: u32, row: u32 },
     Global(u32),

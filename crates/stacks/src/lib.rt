@@ -24,7 +24,7 @@ const WORKS: usize = 5120;
 
 // An Eval keeps how many forms may still be opened in its row, a PushLocal the row of the form whose binder comes into scope, a Build the row
 // that it is for and its kind in the core.
-#[derive(Drop)]
+#[derive(Clone, Copy)]
 pub enum Work {
     Eval { row: u32, left: u32 },
     PushLocal { row: u32 },

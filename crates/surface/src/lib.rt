@@ -4,7 +4,7 @@
 use token::Refusal;
 
 // The answer of loading: the counts of rows and of declarations, or the refusal.
-#[derive(Drop)]
+#[derive(Clone, Copy)]
 pub enum Answer {
     Loaded { rows: usize, declarations: usize },
     Refused(Refusal),

@@ -15,7 +15,7 @@ use token::Refusal;
 const LONGEST: usize = 4294967295;
 
 // A term that was read: its row, how many rows are stored, where reading goes on, and how many frames were open at most; or the refusal.
-#[derive(Drop)]
+#[derive(Clone, Copy)]
 pub enum TermRead {
     Done {
         row: u32,

@@ -3,7 +3,7 @@
 // A term's kind, the start and length of its name, numeral or binder, and its first byte's offset.
 #![tactic(auto)]
 
-#[derive(Drop)]
+#[derive(Clone, Copy)]
 pub struct Label {
     pub kind: u32,
     pub start: u32,

@@ -7,7 +7,7 @@ ghost use Rattle.token.specs.Token.{digit};
 ghost use Rattle.words.specs.Words.{same_bytes, word_index, reserved, name_start, name_byte, identifier, numeral, name_test};
 ghost use Rattle.words.specs.Slots.{word_slot, slot_entry};
 
-#[derive(Drop)]
+#[derive(Clone, Copy)]
 pub enum NameTest {
     Name,
     Reserved,
