@@ -55,6 +55,8 @@ none_named x s t k (suc d) n =
 first_named : (x : Name) (s t : List ℕ) (j k d : ℕ) → j < d → x ≡ name_at s t (k + j) → ((i : ℕ) → k ≤ i → i < k + j → x ≡ name_at s t i → ⊥)
     → some j ≡ find x (declared_names s t k d)
 unfolding declared_names find
+first_named x s t zero k zero h e n = absurd (omega arith)
+first_named x s t (suc j) k zero h e n = absurd (omega arith)
 first_named x s t zero k (suc d) h e n = rw (eq_same x (name_at s t k) (e ∙ ap (name_at s t) (let q : k + 0 ≡ k = omega arith in q)), find)
 first_named x s t (suc j) k (suc d) h e n =
     rw (ne_same x (name_at s t k) (n k (omega arith) (omega arith)), find, ← first_named x s t j (suc k) d (omega arith) (e ∙ ap (name_at s t) (let q : k + suc j ≡ suc k + j = omega arith in q)) (λ i l o. n i (omega arith) (omega arith)))
