@@ -9,7 +9,7 @@ ghost use Rattle.core_token.specs.CoreToken.{core_class, string_class, core_atom
 use token::{Lexed, Place, Refusal, Token, TokenKind};
 
 // What a byte is for outside strings.
-#[derive(Drop)]
+#[derive(Clone, Copy)]
 pub enum CoreClass {
     Layout,
     LParen,
@@ -20,7 +20,7 @@ pub enum CoreClass {
 }
 
 // What a byte inside a string is: `Lead` is the first byte of U+0080 to U+00BF.
-#[derive(Drop)]
+#[derive(Clone, Copy)]
 pub enum StringClass {
     Quote,
     Backslash,
