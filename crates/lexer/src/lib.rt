@@ -16,7 +16,7 @@ pub struct Lexer<'a> {
 }
 
 // What is read at a position, and the position behind it.
-#[derive(Drop)]
+#[derive(Clone, Copy)]
 pub struct Stepped {
     pub lexed: Lexed,
     pub pos: usize,
