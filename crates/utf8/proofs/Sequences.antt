@@ -1,5 +1,5 @@
 -- A sequence that is passed over at once, and the bytes of one by their offsets.
-use Prim.Native.Nat.{ℕ, zero, suc, ◌+◌, ◌≤◌, ◌<◌}
+use Prim.Native.Nat.{ℕ, suc, ◌+◌, ◌≤◌, ◌<◌}
 use mathlib.Core.Path.{◌≡◌, refl, sym, ◌∙◌, ap}
 use mathlib.Core.Bool.{Bool, true, false, ◌&&◌, and-true, and-false, and-eq-true_iff, cond, true≢false}
 use mathlib.Core.List.{List, [], ◌∷◌}
@@ -8,7 +8,7 @@ use native.Mathlib.Omega.{arith}
 use lib.ListN.{length, get_or, drop, length-drop}
 use Rattle.token.proofs.Runs.{drop_next}
 use Rattle.utf8.specs.Utf8.{Range, range, in_range, table_3_7, following, valid_from}
-use Rattle.utf8.specs.Sequences.{begins, sequence, second, First}
+use Rattle.utf8.specs.Sequences.{begins, sequence, second}
 use Rattle.utf8.proofs.FirstBytes.{line, line_of}
 use Rattle.utf8.proofs.ValidFrom.{all_whole}
 

@@ -1,9 +1,6 @@
 -- `core_token::lex_atom` meets its contract: what is left of the atom is what the whole is.
-use Prim.Native.Nat.{◌-◌}
 use mathlib.Core.Path.{sym, ◌∙◌}
-use mathlib.Core.List.{[], ◌∷◌}
 use borrow.Author.Rules.{rules}
-use types.Run.{miss}
 use Rattle.core_token.proofs.Runs.{atom_word, atom_refused, atom_stop, atom_end}
 use Rattle.core_token.proofs.lex_atom.Goals as goal
 
@@ -15,11 +12,7 @@ returns-in-Refused c = c.malformed_at.ensures ∙ sym (c.loop-pos.invariant ∙ 
 
 pub returns-in_default : goal.returns-in_default
 returns-in_default c =
-    c.token_of.ensures
-    ∙ sym (c.loop-pos.invariant
-    ∙ atom_stop _ _ (search rules) _ c.core_class-class.result (sym c.core_class-class.ensures)
-    (λ q. miss (0 ∷ 1 ∷ 2 ∷ 3 ∷ []) 4 tt (rw q at c.in_default.in_default-own.keys3))
-    (λ q. miss (0 ∷ 1 ∷ 2 ∷ 3 ∷ []) 5 tt (rw q at c.in_default.in_default-own.keys3)))
+    c.token_of.ensures ∙ sym (c.loop-pos.invariant ∙ atom_stop _ _ (search rules) _ c.core_class-class.result (sym c.core_class-class.ensures) c.in_default.not-Atom c.in_default.not-Refused)
 
 pub returns : goal.returns
 returns c = c.token_of-2.ensures ∙ sym (c.loop-pos.invariant ∙ atom_end _ _ (search rules) _)

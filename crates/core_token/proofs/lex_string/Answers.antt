@@ -1,5 +1,4 @@
 -- `core_token::lex_string` meets its contract: what is left of the string is what the whole is.
-use Prim.Native.Nat.{◌-◌}
 use mathlib.Core.Path.{refl, sym, ◌∙◌}
 use native.Mathlib.Omega.{arith}
 use borrow.Author.Rules.{rules}

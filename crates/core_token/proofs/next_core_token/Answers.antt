@@ -1,5 +1,4 @@
 -- `core_token::next_core_token` meets its contract: the first token behind layout is the first token.
-use Prim.Native.Nat.{◌-◌}
 use mathlib.Core.Path.{sym, ◌∙◌}
 use borrow.Author.Rules.{rules}
 use Rattle.core_token.proofs.Runs.{next_blank, next_open, next_close, next_quote, next_word, next_refused, next_end}

@@ -4,8 +4,6 @@ use mathlib.Core.Path.{◌≡◌}
 use lib.Dec.{ltb}
 use lib.ListN.{take, drop}
 use Rattle.utf8.specs.Ascii.{ascii}
-use Rattle.utf8.proofs.ascii_block.Reads as reads
-use Rattle.utf8.proofs.ascii_block.Lts as lts
 use Rattle.utf8.proofs.ascii_block.Given as goal
 
 abbrev pub invariant-loop-i : goal.invariant-loop-i

@@ -1,5 +1,4 @@
 -- `utf8::skip_ascii` meets its contract: each byte that it passes is ASCII.
-use Prim.Native.Nat.{◌-◌}
 use native.Mathlib.Omega.{arith}
 use Rattle.utf8.proofs.Runs.{same_none, same_byte, ends_byte, ends_all}
 use Rattle.utf8.proofs.skip_ascii.Goals as goal

@@ -1,5 +1,4 @@
 -- `utf8::skip_blocks` meets its contract: each block that it passes is ASCII.
-use Prim.Native.Nat.{◌-◌}
 use mathlib.Core.Path.{sym, ◌∙◌}
 use native.Mathlib.Omega.{arith}
 use borrow.Author.Tests.{not-false}

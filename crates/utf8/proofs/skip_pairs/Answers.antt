@@ -1,5 +1,4 @@
 -- `utf8::skip_pairs` meets its contract: each sequence that it passes has two bytes.
-use Prim.Native.Nat.{◌-◌}
 use native.Mathlib.Omega.{arith}
 use borrow.Author.Tests.{not-true, not-false}
 use Rattle.utf8.proofs.Pairs.{rest_none, rest_more, stops, not_first, not_second, no_room}

@@ -1,5 +1,4 @@
 -- `utf8::valid_up_to` meets its contract: the valid length of the whole is that of what is left.
-use Prim.Native.Nat.{◌-◌}
 use mathlib.Core.Path.{sym, ◌∙◌}
 use native.Mathlib.Omega.{arith}
 use Rattle.utf8.proofs.Runs.{run_low}
