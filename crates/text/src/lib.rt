@@ -36,6 +36,7 @@ pub fn put(out: &mut [u8], at: usize, bytes: &[u8]) -> usize
 }
 
 // The digits of n, of which there are at most so many.
+#[tactic(auto, using(crate::proofs::Digits::digits_none, crate::proofs::Digits::digits_one))]
 fn put_digits(out: &mut [u8], at: usize, places: u8, n: u64) -> usize
     ensures out_after { out.new ≡ sets out.old at (digits places n) }
     ensures value { result ≡ length_in out.old (at + length (digits places n)) }
