@@ -1,6 +1,5 @@
 // The declaration list as a slice of records, document 01's "the declaration list is lent as a slice of records".
-// The borrow checker covers no function that has such a slice, so those here are few and thin, and proved by hand. What they
-// call stands over words and is covered.
+// The functions over such a slice are few and thin: what they call stands over words.
 #![tactic(auto)]
 
 ghost use Rattle.std.specs.Prelude.{◌≡◌, length, get_or, set};
