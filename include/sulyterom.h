@@ -2,7 +2,7 @@
    tells which declarations depend on which, what binds a reference, how a module is named and how much storage a source
    needs, and writes and reads core text, by which stations exchange core modules.
 
-   `rt staticlib sulyterom` makes target/staticlib/libsulyterom.a for x86-64 Linux. Link it:
+   `./sulyterom build` makes target/staticlib/libsulyterom.a for x86-64 Linux. Link it:
 
        cc -Iinclude program.c target/staticlib/libsulyterom.a
 

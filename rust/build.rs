@@ -13,7 +13,7 @@ fn main() {
         println!("cargo::rustc-link-search=native={}", folder.display());
     } else {
         println!("cargo::error=there is no {}", library.display());
-        println!("cargo::error=make it by `rt staticlib sulyterom` in the repository, or let {FOLDER} name its folder");
+        println!("cargo::error=make it by `./sulyterom build` in the repository, or let {FOLDER} name its folder");
     }
 }
 

@@ -18,15 +18,14 @@ struct File {
 }
 
 fn words(text: &str) -> impl Iterator<Item = &str> {
-    text.split(|c: char| c.is_whitespace() || "(){}[],;.⌜⌝".contains(c)).filter(|word| !word.is_empty())
+    text.split(|c: char| c.is_whitespace() || "(){}[],;.".contains(c)).filter(|word| !word.is_empty())
 }
 
-/// `[ghost] use Rattle·CRATE.specs.FILE.{NAME, ..}`, in the crate itself `Rattle·CRATE·specs.specs.FILE`.
+/// `[ghost] use Rattle.CRATE.specs.FILE.{NAME, ..}`.
 fn import(line: &str, file: &mut File) {
-    let parts = line.split_once("use Rattle·").and_then(|(_, rest)| rest.split_once(".{"));
+    let parts = line.split_once("use Rattle.").and_then(|(_, rest)| rest.split_once(".{"));
     let Some((path, names)) = parts else { return };
     let Some((of, within)) = path.split_once(".specs.") else { return };
-    let of = of.trim_end_matches("·specs");
     for name in words(names) {
         file.imported.insert(name.to_string(), (format!("{of}/{within}"), name.to_string()));
     }
@@ -69,10 +68,11 @@ fn specs(text: &str) -> File {
     file
 }
 
-/// A file of src/ that has the function, and the words of its `ensures`.
+/// A file of src/ that has the function, and the words of its `ensures { .. }` and `ensures NAME { .. }`.
 fn code(text: &str, function: &str) -> Option<(File, BTreeSet<String>)> {
     let begin = text.find(&format!("fn {function}("))?;
-    let contract = text[begin..].split("\n{").next()?.split("ensures").skip(1);
+    let clauses = text[begin..].split("\n{").next()?.split("ensures ").skip(1);
+    let contract = clauses.filter_map(|clause| Some(clause.split_once('{')?.1));
     let mut file = File::default();
     text.lines().for_each(|line| import(line, &mut file));
     Some((file, contract.flat_map(words).map(str::to_string).collect()))
@@ -81,7 +81,9 @@ fn code(text: &str, function: &str) -> Option<(File, BTreeSet<String>)> {
 fn files(folder: &Path, ending: &str) -> Vec<PathBuf> {
     let Ok(entries) = fs::read_dir(folder) else { return Vec::new() };
     let within = |path: PathBuf| if path.is_dir() { files(&path, ending) } else { vec![path] };
-    let all = entries.flatten().flat_map(|entry| within(entry.path()));
+    // what the prover keeps beside a crate is no source
+    let sources = entries.flatten().map(|entry| entry.path()).filter(|path| !path.ends_with("out"));
+    let all = sources.flat_map(within);
     all.filter(|path| path.to_string_lossy().ends_with(ending)).collect()
 }
 

@@ -83,7 +83,7 @@
 //!
 //! # Building
 //!
-//! `rt staticlib sulyterom` in the repository makes `target/staticlib/libsulyterom.a`, for x86-64 Linux, where the build
+//! `./sulyterom build` in the repository makes `target/staticlib/libsulyterom.a`, for x86-64 Linux, where the build
 //! looks for it. `SULYTEROM_LIBRARY_FOLDER` may name another folder, by an absolute path.
 #![no_std]
 

@@ -1,1 +1,2 @@
-../../../docs/src/src/error.rs
+// The unchanged file of docs/src.
+include!("../../../docs/src/src/error.rs");

@@ -1,1 +1,2 @@
-../../../docs/src/src/syntax.rs
+// The unchanged file of docs/src.
+include!("../../../docs/src/src/syntax.rs");

@@ -1,1 +1,2 @@
-../../../../docs/src/src/format/printer.rs
+// The unchanged file of docs/src.
+include!("../../../../docs/src/src/format/printer.rs");
