@@ -7,7 +7,7 @@ pub returns-then-tight : goal.returns-then-tight
 returns-then-tight c = c.is_nothing.ensures ∙ by_gap _ c.if-tight.true refl
 
 pub returns-in-LParen : goal.returns-in-LParen
-returns-in-LParen c = c.is_byte_lem.ensures ∙ by_gap _ c.if-tight.false c.in-LParen.is
+returns-in-LParen c = c.is_byte.ensures ∙ by_gap _ c.if-tight.false c.in-LParen.is
 
 pub returns-in-RParen : goal.returns-in-RParen
 returns-in-RParen c = c.is_nothing-in-RParen.ensures ∙ by_gap _ c.if-tight.false c.in-RParen.is
