@@ -13,9 +13,9 @@ returns-then-depth-lt-FRAMES c =
     let i = c.requires in
     let d = c.deeper-most.ensures in
     let k = c.open_frame in (
-      (omega (arith, d), omega (arith, d, c.if-depth-lt-FRAMES.true, i.0.deepest)),
+      (omega (arith, d), omega (arith, d, c.if-depth-lt-FRAMES.true, i.term_inside.deepest)),
       λ l f g.
-          open_step a.s.now _ (setting_sound a.format a.s.now a.limit l) a.table.now a.work.now a.st (inside_within a.s.now a.work.now a.st i.0 l f g) _ i.1.0 (c.begin_term-begun.ensures i.0.source) _ _ _ _
+          open_step a.s.now _ (setting_sound a.format a.s.now a.limit l) a.table.now a.work.now a.st (inside_within a.s.now a.work.now a.st i.term_inside l f g) _ i.have_value (c.begin_term-begun.ensures i.term_inside.source) _ _ _ _
           c.in-Frame.is d k.ensures k.auto.work,
     )
 
@@ -23,16 +23,16 @@ pub returns-in-Refused : goal.returns-in-Refused
 returns-in-Refused c =
     let a = c.args in
     let i = c.requires in
-    (tt, λ l f g. refused_step a.s.now _ (setting_sound a.format a.s.now a.limit l) a.table.now a.work.now a.st (inside_within a.s.now a.work.now a.st i.0 l f g) _ i.1.0 (c.begin_term-begun.ensures i.0.source) _ c.in-Refused.is)
+    (tt, λ l f g. refused_step a.s.now _ (setting_sound a.format a.s.now a.limit l) a.table.now a.work.now a.st (inside_within a.s.now a.work.now a.st i.term_inside l f g) _ i.have_value (c.begin_term-begun.ensures i.term_inside.source) _ c.in-Refused.is)
 
 pub returns-in-Leaf : goal.returns-in-Leaf
 returns-in-Leaf c =
     let a = c.args in
     let i = c.requires in
     let k = c.push_term in (
-      pushed_bounded a.st a.limit _ _ _ _ i.0.deepest k.ensures.value,
+      pushed_bounded a.st a.limit _ _ _ _ i.term_inside.deepest k.ensures.value,
       λ l f g.
-          leaf_step a.s.now _ (setting_sound a.format a.s.now a.limit l) a.table.now a.work.now a.st (inside_within a.s.now a.work.now a.st i.0 l f g) _ i.1.0 (c.begin_term-begun.ensures i.0.source) _ _ _ _
+          leaf_step a.s.now _ (setting_sound a.format a.s.now a.limit l) a.table.now a.work.now a.st (inside_within a.s.now a.work.now a.st i.term_inside l f g) _ i.have_value (c.begin_term-begun.ensures i.term_inside.source) _ _ _ _
           c.in-Leaf.is k.ensures.value (k.ensures.table_after ∙ ap (pushed_row a.limit a.table.now a.st.rows) c.term_row-row.ensures),
     )
 
@@ -41,6 +41,6 @@ returns-else-depth-lt-FRAMES c =
     let a = c.args in
     let i = c.requires in (
       tt,
-      λ l f g. deep_step a.s.now _ (setting_sound a.format a.s.now a.limit l) a.table.now a.work.now a.st (inside_within a.s.now a.work.now a.st i.0 l f g) _ i.1.0 (c.begin_term-begun.ensures i.0.source) _ _
-          c.in-Frame.is (omega (arith, c.if-depth-lt-FRAMES.false, i.0.depth, i.0.deepest, f, g)) ∙ ap refused (sym c.refused_nowhere.ensures),
+      λ l f g. deep_step a.s.now _ (setting_sound a.format a.s.now a.limit l) a.table.now a.work.now a.st (inside_within a.s.now a.work.now a.st i.term_inside l f g) _ i.have_value (c.begin_term-begun.ensures i.term_inside.source) _ _
+          c.in-Frame.is (omega (arith, c.if-depth-lt-FRAMES.false, i.term_inside.depth, i.term_inside.deepest, f, g)) ∙ ap refused (sym c.refused_nowhere.ensures),
     )
