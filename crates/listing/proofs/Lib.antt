@@ -1,4 +1,3 @@
-mod Steps
 pub mod Example
 mod Atoms
 mod Shown

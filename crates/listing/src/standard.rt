@@ -3,73 +3,49 @@
 ghost use Rattle.std.specs.Prelude.{◌≤◌, length};
 ghost use Rattle.listing.specs.Moved.{Within, Read};
 
-use libc::{STDIN_FILENO, STDOUT_FILENO};
+use std::io::{Cursor, ErrorKind, Read, Write};
+use std::{io, str};
 
-// What a call did: it moved bytes up to an offset, it moved nothing, a signal came first, or it failed, and errno says why.
-#[derive(Clone, Copy)]
+// What a call did: it moved bytes up to an offset, it moved nothing, a signal came first, or it failed.
+#[derive(Drop)]
 enum Transfer {
     To(usize),
     Nothing,
     Interrupted,
-    Failed,
+    Failed(io::Error),
 }
 
 // What was read: so many bytes, up to the end of the input or of the buffer; or the call that failed left no source.
-#[derive(Clone, Copy)]
+#[derive(Drop)]
 pub enum Input {
     Bytes(usize),
-    Failed,
+    Failed(io::Error),
 }
 
-// What a call did that was handed the bytes from an offset up to an end, and moved so many or failed.
-fn done_by(from: usize, end: usize, moved: usize, is_failed: bool) -> Transfer
-    ensures { Within end result }
-{
-    if is_failed {
-        if os::errno() == libc::EINTR {
-            return Transfer::Interrupted;
-        }
-        return Transfer::Failed;
-    }
-    if moved == 0 {
-        return Transfer::Nothing;
-    }
-    if end < moved {
-        return Transfer::Failed;
-    }
-    if end - moved < from {
-        return Transfer::Failed;
-    }
-    Transfer::To(from + moved)
-}
-
-fn read_from(buf: &mut [u8], from: usize) -> Transfer
+fn read_from<R: Read>(input: &mut R, buf: &mut [u8], from: usize) -> Transfer
     requires { from ≤ length buf.old }
     ensures { Within (length buf.new) result }
 {
-    let answer = libc::read(STDIN_FILENO, &mut buf[from..]);
-    let moved = io::count(answer, buf);
-    done_by(from, buf.len(), moved, answer < 0)
-}
-
-fn write_from(text: &[u8], from: usize) -> Transfer
-    requires { from ≤ length text.now }
-    ensures { Within (length text.now) result }
-{
-    let answer = libc::write(STDOUT_FILENO, &text[from..]);
-    let moved = io::count(answer, text);
-    done_by(from, text.len(), moved, answer < 0)
+    match input.read(&mut buf[from..]) {
+        Ok(0) => Transfer::Nothing,
+        Ok(moved) => Transfer::To(from + moved),
+        Err(error) => {
+            if error.kind() == ErrorKind::Interrupted {
+                return Transfer::Interrupted;
+            }
+            Transfer::Failed(error)
+        }
+    }
 }
 
 // A proved loop has to end, and nothing says that signals do: it counts its turns down, from a number that no run uses up.
-pub fn read_input(buf: &mut [u8]) -> Input
+pub fn read_input<R: Read>(input: &mut R, buf: &mut [u8]) -> Input
     ensures { Read (length buf.new) result }
 {
     let mut done = 0;
     let mut turns = u64::MAX;
     while turns > 0 && done < buf.len() {
-        let read = read_from(buf, done);
-        match read {
+        match read_from(input, buf, done) {
             Transfer::To(end) => {
                 done = end;
                 turns -= 1;
@@ -80,35 +56,35 @@ pub fn read_input(buf: &mut [u8]) -> Input
             Transfer::Interrupted => {
                 turns -= 1;
             }
-            Transfer::Failed => {
-                return Input::Failed;
+            Transfer::Failed(error) => {
+                return Input::Failed(error);
             }
         }
     }
     if done < buf.len() {
-        return Input::Failed;
+        return Input::Failed(io::Error::from(ErrorKind::Interrupted));
     }
     Input::Bytes(done)
 }
 
-// Whether all of the text was written.
-pub fn write_output(text: &[u8]) -> bool {
-    let mut done = 0;
-    let mut turns = u64::MAX;
-    while turns > 0 && done < text.len() {
-        let written = write_from(text, done);
-        match written {
-            Transfer::To(end) => {
-                done = end;
-                turns -= 1;
-            }
-            Transfer::Interrupted => {
-                turns -= 1;
-            }
-            _ => {
-                return false;
-            }
-        }
-    }
-    done == text.len()
+// All of the text is written, or a call failed.
+pub fn write_output<W: Write>(output: &mut W, text: &[u8]) -> io::Result<()> {
+    output.write_all(text)
+}
+
+// Says on standard error what could not be done, and why in the system's words: std puts its number behind them.
+pub fn tell(rt: &impl Eprint, what: &str, error: io::Error) {
+    let mut told = Cursor::new([0u8; 256]);
+    let _ = write!(told, "{error}");
+    let length = told.position() as usize;
+    let bytes = told.into_inner();
+    let words = match str::from_utf8(&bytes[..length.min(256)]) {
+        Ok(words) => words,
+        Err(_) => "",
+    };
+    let reason = match words.split_once(" (os error ") {
+        Some((reason, _)) => reason,
+        None => words,
+    };
+    let _ = eprintln!(rt; "listing: {what}: {reason}");
 }

@@ -8,11 +8,11 @@ ghost use Rattle.record_list.specs.Left.{Left, used};
 
 use binding::Binding;
 use dependence::Dependence;
-use libc::STDOUT_FILENO;
 use printing::Printed;
 use reader::{Method, ModuleRead};
 use record_loader::{Question, Reply};
 use records::Declaration;
+use std::io;
 use surface::Answer;
 use token::{Place, Refusal};
 
@@ -29,8 +29,7 @@ fn used_record() -> Declaration
     }
 }
 
-// The list of 256 records is a local array, which is lent to `ask_records`; then its words are handed out. By hand, and with plain
-// parameters, so that its callers are covered.
+// The list of 256 records is a local array, which is lent to `ask_records`; then its words are handed out.
 fn ask_list(
     question: Question,
     s: &[u8],
@@ -48,114 +47,112 @@ fn ask_list(
     reply
 }
 
-fn print_number(n: u64) {
-    io::write_all(STDOUT_FILENO, b" ");
-    io::print_decimal(STDOUT_FILENO, n);
+fn print_number(rt: &impl Print, n: u64) -> io::Result<()> {
+    print!(rt; " {n}")
 }
 
-fn print_refusal(refusal: Refusal) {
-    io::write_all(STDOUT_FILENO, b"refused");
-    print_number(refusal.class as u64);
+fn print_refusal(rt: &impl Print, refusal: Refusal) -> io::Result<()> {
+    print!(rt; "refused")?;
+    print_number(rt, refusal.class as u64)?;
     let place = refusal.place;
     if let Place::At(at) = place {
-        io::write_all(STDOUT_FILENO, b" at");
-        print_number(at as u64);
+        print!(rt; " at")?;
+        print_number(rt, at as u64)?;
     }
+    Ok(())
 }
 
-fn print_counts(rows: usize, declarations: usize) {
-    print_number(rows as u64);
-    print_number(declarations as u64);
+fn print_counts(rt: &impl Print, rows: usize, declarations: usize) -> io::Result<()> {
+    print_number(rt, rows as u64)?;
+    print_number(rt, declarations as u64)
 }
 
-fn print_loaded(answer: Answer) {
+fn print_loaded(rt: &impl Print, answer: Answer) -> io::Result<()> {
     match answer {
         Answer::Loaded { rows, declarations } => {
-            io::write_all(STDOUT_FILENO, b"loaded");
-            print_counts(rows, declarations);
+            print!(rt; "loaded")?;
+            print_counts(rt, rows, declarations)
         }
-        Answer::Refused(refusal) => print_refusal(refusal),
+        Answer::Refused(refusal) => print_refusal(rt, refusal),
     }
 }
 
-fn print_read(answer: ModuleRead) {
+fn print_read(rt: &impl Print, answer: ModuleRead) -> io::Result<()> {
     match answer {
         ModuleRead::Done { rows, declarations } => {
-            io::write_all(STDOUT_FILENO, b"read");
-            print_counts(rows, declarations);
+            print!(rt; "read")?;
+            print_counts(rt, rows, declarations)
         }
-        ModuleRead::Refused(refusal) => print_refusal(refusal),
+        ModuleRead::Refused(refusal) => print_refusal(rt, refusal),
     }
 }
 
-fn print_dependence(answer: Dependence) {
+fn print_dependence(rt: &impl Print, answer: Dependence) -> io::Result<()> {
     match answer {
         Dependence::Yes { row } => {
-            io::write_all(STDOUT_FILENO, b"yes");
-            print_number(row as u64);
+            print!(rt; "yes")?;
+            print_number(rt, row as u64)
         }
-        Dependence::No => {
-            io::write_all(STDOUT_FILENO, b"no");
-        }
-        Dependence::Refused(refusal) => print_refusal(refusal),
+        Dependence::No => print!(rt; "no"),
+        Dependence::Refused(refusal) => print_refusal(rt, refusal),
     }
 }
 
-fn print_printed(answer: Printed) {
+fn print_printed(rt: &impl Print, answer: Printed) -> io::Result<()> {
     match answer {
         Printed::Text { length } => {
-            io::write_all(STDOUT_FILENO, b"printed");
-            print_number(length as u64);
+            print!(rt; "printed")?;
+            print_number(rt, length as u64)
         }
-        Printed::Refused(refusal) => print_refusal(refusal),
+        Printed::Refused(refusal) => print_refusal(rt, refusal),
     }
 }
 
-fn print_text_read(answer: Answer) {
+fn print_text_read(rt: &impl Print, answer: Answer) -> io::Result<()> {
     match answer {
         Answer::Loaded { rows, declarations } => {
-            io::write_all(STDOUT_FILENO, b"text read");
-            print_counts(rows, declarations);
+            print!(rt; "text read")?;
+            print_counts(rt, rows, declarations)
         }
-        Answer::Refused(refusal) => print_refusal(refusal),
+        Answer::Refused(refusal) => print_refusal(rt, refusal),
     }
 }
 
-fn print_bound(answer: Binding) {
+fn print_bound(rt: &impl Print, answer: Binding) -> io::Result<()> {
     match answer {
         Binding::Local { count, row } => {
-            io::write_all(STDOUT_FILENO, b"var");
-            print_counts(count, row);
+            print!(rt; "var")?;
+            print_counts(rt, count, row)
         }
         Binding::Global { place } => {
-            io::write_all(STDOUT_FILENO, b"global");
-            print_number(place as u64);
+            print!(rt; "global")?;
+            print_number(rt, place as u64)
         }
-        Binding::Refused(refusal) => print_refusal(refusal),
+        Binding::Refused(refusal) => print_refusal(rt, refusal),
     }
 }
 
-fn print_reply(reply: Reply) {
+fn print_reply(rt: &impl Print, reply: Reply) -> io::Result<()> {
     match reply {
-        Reply::Loaded(answer) => print_loaded(answer),
-        Reply::Parsed(answer) => print_read(answer),
-        Reply::Depends(answer) => print_dependence(answer),
-        Reply::Printed(answer) => print_printed(answer),
-        Reply::Read(answer) => print_text_read(answer),
-        Reply::Bound(answer) => print_bound(answer),
+        Reply::Loaded(answer) => print_loaded(rt, answer)?,
+        Reply::Parsed(answer) => print_read(rt, answer)?,
+        Reply::Depends(answer) => print_dependence(rt, answer)?,
+        Reply::Printed(answer) => print_printed(rt, answer)?,
+        Reply::Read(answer) => print_text_read(rt, answer)?,
+        Reply::Bound(answer) => print_bound(rt, answer)?,
     }
-    io::write_all(STDOUT_FILENO, b"\n");
+    println!(rt)
 }
 
-fn print_record(words: &[u32], k: usize) {
+fn print_record(rt: &impl Print, words: &[u32], k: usize) -> io::Result<()> {
     let d = records::record_at(words, k);
-    io::write_all(STDOUT_FILENO, b"record");
-    print_number(d.kind as u64);
-    print_number(d.name_start as u64);
-    print_number(d.name_length as u64);
-    print_number(d.type_row as u64);
-    print_number(d.body_row as u64);
-    io::write_all(STDOUT_FILENO, b"\n");
+    print!(rt; "record")?;
+    print_number(rt, d.kind as u64)?;
+    print_number(rt, d.name_start as u64)?;
+    print_number(rt, d.name_length as u64)?;
+    print_number(rt, d.type_row as u64)?;
+    print_number(rt, d.body_row as u64)?;
+    println!(rt)
 }
 
 // How many bytes were printed.
@@ -176,7 +173,12 @@ fn front(text: &[u8], n: usize) -> &[u8] {
     text
 }
 
-fn print_asked(question: Question, s: &[u8], text: &mut [u8]) -> Reply {
+fn print_asked(
+    rt: &impl Print,
+    question: Question,
+    s: &[u8],
+    text: &mut [u8],
+) -> io::Result<Reply> {
     let mut surface = [0u32; 8192];
     let mut core = [0u32; 8192];
     let mut work = [0u32; 16384];
@@ -190,53 +192,56 @@ fn print_asked(question: Question, s: &[u8], text: &mut [u8]) -> Reply {
         &mut words,
         text,
     );
-    print_reply(reply);
-    print_record(&words, 0);
-    print_record(&words, 1);
-    print_record(&words, 2);
-    reply
+    print_reply(rt, reply)?;
+    print_record(rt, &words, 0)?;
+    print_record(rt, &words, 1)?;
+    print_record(rt, &words, 2)?;
+    Ok(reply)
 }
 
 // Both readers load and read the source.
-fn print_read_by_both(s: &[u8], text: &mut [u8]) {
-    print_asked(Question::Load(Method::Frames), s, text);
-    print_asked(Question::Load(Method::Plain), s, text);
-    print_asked(Question::Parse(Method::Frames), s, text);
-    print_asked(Question::Parse(Method::Plain), s, text);
+fn print_read_by_both(rt: &impl Print, s: &[u8], text: &mut [u8]) -> io::Result<()> {
+    print_asked(rt, Question::Load(Method::Frames), s, text)?;
+    print_asked(rt, Question::Load(Method::Plain), s, text)?;
+    print_asked(rt, Question::Parse(Method::Frames), s, text)?;
+    print_asked(rt, Question::Parse(Method::Plain), s, text)?;
+    Ok(())
 }
 
-fn print_source(s: &[u8], text: &mut [u8]) {
-    print_read_by_both(s, text);
-    print_asked(Question::Depends(1, 0), s, text);
-    print_asked(Question::Depends(0, 1), s, text);
-    print_asked(Question::Binder(1), s, text);
-    print_asked(Question::Binder(2), s, text);
-    print_asked(Question::Binder(3), s, text);
+fn print_source(rt: &impl Print, s: &[u8], text: &mut [u8]) -> io::Result<()> {
+    print_read_by_both(rt, s, text)?;
+    print_asked(rt, Question::Depends(1, 0), s, text)?;
+    print_asked(rt, Question::Depends(0, 1), s, text)?;
+    print_asked(rt, Question::Binder(1), s, text)?;
+    print_asked(rt, Question::Binder(2), s, text)?;
+    print_asked(rt, Question::Binder(3), s, text)?;
+    Ok(())
 }
 
-fn print_core(t: &[u8], text: &mut [u8]) {
-    print_asked(Question::ReadCore, t, text);
-    print_asked(Question::ReadCanonical, t, text);
+fn print_core(rt: &impl Print, t: &[u8], text: &mut [u8]) -> io::Result<()> {
+    print_asked(rt, Question::ReadCore, t, text)?;
+    print_asked(rt, Question::ReadCanonical, t, text)?;
+    Ok(())
 }
 
-fn main() {
+fn main(rt: HostRuntime) -> io::Result<()> {
     let mut buffer = [0u8; 256];
     let mut short = [0u8; 16];
     let listed = b"(surface 0 1)(module m)(postulate x nat)(postulate y (pi x (ref x) (ref x)))";
-    print_source(listed, &mut short);
-    print_asked(Question::Print, listed, &mut short);
-    let reply = print_asked(Question::Print, listed, &mut buffer);
+    print_source(&rt, listed, &mut short)?;
+    print_asked(&rt, Question::Print, listed, &mut short)?;
+    let reply = print_asked(&rt, Question::Print, listed, &mut buffer)?;
     let length = printed_length(reply);
     let printed = front(&buffer, length);
-    io::write_all(STDOUT_FILENO, printed);
-    print_core(printed, &mut short);
+    rt.write_all(printed)?;
+    print_core(&rt, printed, &mut short)?;
     let unknown = b"(surface 0 1)(module m)(postulate a (ref q))";
-    print_asked(Question::Load(Method::Plain), unknown, &mut short);
-    print_asked(Question::Parse(Method::Plain), unknown, &mut short);
-    print_asked(Question::Depends(0, 0), unknown, &mut short);
-    print_asked(Question::Binder(0), unknown, &mut short);
-    print_asked(Question::Print, unknown, &mut short);
+    print_asked(&rt, Question::Load(Method::Plain), unknown, &mut short)?;
+    print_asked(&rt, Question::Parse(Method::Plain), unknown, &mut short)?;
+    print_asked(&rt, Question::Depends(0, 0), unknown, &mut short)?;
+    print_asked(&rt, Question::Binder(0), unknown, &mut short)?;
+    print_asked(&rt, Question::Print, unknown, &mut short)?;
     let spaced =
         b"(hott-core (format 0 1) (theory \"mltt-core\" 0 1) (declarations (postulate \"x\"  nat)))";
-    print_core(spaced, &mut short);
+    print_core(&rt, spaced, &mut short)
 }
