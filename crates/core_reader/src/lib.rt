@@ -12,7 +12,7 @@ ghost use Rattle.core_reader.specs.Texts.{ReadsWhole, ReadsBehind};
 ghost use Rattle.core_reader.specs.Heads.{version, format_line, theory_line, head, text_end, behind_tag, ReadsVersion, Passes};
 
 use expects::{Format, NameRead};
-use reader::{DeclarationsRead, Limits, Method, ModuleRead};
+use reader::{DeclarationsRead, Limits, ModuleRead};
 use token::{Lexed, Refusal, Token};
 
 // Whether a version is 0 1, and where reading goes on.
@@ -177,17 +177,7 @@ fn read_behind(
         rows: table.len() / 8,
         declarations: list.len() / 5,
     };
-    let d = reader::read_declarations(
-        s,
-        classes,
-        table,
-        list,
-        work,
-        at,
-        limits,
-        Format::Core01,
-        Method::Frames,
-    );
+    let d = reader::read_declarations(s, classes, table, list, work, at, limits, Format::Core01);
     match d {
         DeclarationsRead::Refused(r) => ModuleRead::Refused(r),
         DeclarationsRead::Done {

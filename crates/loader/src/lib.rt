@@ -80,7 +80,7 @@ fn parse(
     let tested = test_source(s, work.len());
     match tested {
         Tested::Refused(refusal) => ModuleRead::Refused(refusal),
-        Tested::Readable => reader::read_module(s, surface, declarations, work, method),
+        Tested::Readable => reader::read_module_by(s, surface, declarations, work, method),
     }
 }
 

@@ -8,7 +8,7 @@ use lib.Dec.{eqb, leb}
 use lib.ListN.{length}
 use borrow.Author.Tests.{eqb-true, eqb-false, leb-true, leb-false, le-leb}
 use Rattle.token.specs.declared.Refusal.{Refusal}
-use Rattle.terms.specs.Forms.{holds_span_in}
+use Rattle.terms.specs.Forms.{Edition, holds_span_in}
 use Rattle.terms.specs.Label.{Label}
 use Rattle.terms.specs.Tree.{nil, Tree, tree, next as next_row, cells}
 use Rattle.surface.specs.Reader.{Position, Result, nowhere}
@@ -17,12 +17,11 @@ use Rattle.frames.specs.Frames.{open_frames}
 use Rattle.expects.specs.declared.Format.{Format}
 use Rattle.expects.specs.Formats.{edition}
 use Rattle.expects.specs.Expects.{position_at}
-use Rattle.term_rows.specs.TermRows.{stored_rows, Reads, TermBounds, within}
+use Rattle.term_rows.specs.TermRows.{stored_rows, Reads, TermBounds, ReadsTerm as ReadsByLengths}
 use Rattle.term_rows.specs.declared.TermRead.{TermRead}
-use Rattle.term_rows.proofs.Bounds.{within_bounds, bounds_within}
 use Rattle.term_rows.proofs.Depth.{term_needs, term_reads}
 use Rattle.parser.specs.TermRows.{RowResult, done, refused, term_rows, resume, as_rows}
-use Rattle.parser.specs.Machine.{Setting, setting, pending, outcome, ended, TermInside, Went, Steps, first_state, ready, whole_term}
+use Rattle.parser.specs.Machine.{Setting, setting, pending, outcome, ended, TermInside, Went, Steps, first_state, ready, whole_term, ReadsTerm}
 use Rattle.parser.specs.declared.State.{State}
 use Rattle.parser.specs.declared.TermStep.{TermStep}
 use Rattle.parser.proofs.Readers.{setting_sound, whole_tree, whole_rows}
@@ -36,20 +35,26 @@ module _ (s work : List ℕ) (at n : ℕ) where
   pub ready_inside : ready (length s) (length work) at n ≡ true → TermInside 512 s work (first_state at n)
   unfolding open_frames
   ready_inside e =
-      let a = (and-eq-true_iff (leb 5632 (length work)) (within (length s) at n)).0 e in
-      let b = within_bounds s at n a.1 in
+      let a = (and-eq-true_iff (leb (length s) 4294967295) (leb 5632 (length work) && (leb at (length s) && leb n at))).0 e in
+      let b = (and-eq-true_iff (leb 5632 (length work)) (leb at (length s) && leb n at)).0 a.1 in
+      let d = (and-eq-true_iff (leb at (length s)) (leb n at)).0 b.1 in
       record {
-        source = b.source;
-        area = leb-true 5632 (length work) a.0;
-        at = b.inside;
-        rows = b.few;
+        source = leb-true (length s) 4294967295 a.0;
+        area = leb-true 5632 (length work) b.0;
+        at = leb-true at (length s) d.0;
+        rows = leb-true n at d.1;
         depth = omega arith;
         deepest = omega arith;
         waiting = tt;
       }
 
   pub ready_by : 5632 ≤ length work → TermBounds s at n → ready (length s) (length work) at n ≡ true
-  ready_by h b = rw (le-leb 5632 (length work) h, bounds_within s at n b)
+  ready_by h b = rw (le-leb (length s) 4294967295 b.source, le-leb 5632 (length work) h, le-leb at (length s) b.inside, le-leb n at b.few)
+
+  -- What is promised by the lengths is promised of what is inside.
+  pub as_inside : (E : Edition) (limit : ℕ) (table : List ℕ) (r : TermRead) (table₁ : List ℕ)
+      → (5632 ≤ length work → ReadsByLengths E limit s table at n r table₁) → ReadsTerm E limit s table work at n r table₁
+  as_inside E limit table r table₁ h i = h (omega (arith, i.area)) (record { source = i.source; inside = i.at; few = i.rows })
 
 -- Reading a term from an offset on, behind n rows: the tables at the beginning, and now.
 module _ (format : Format) (s : List ℕ) (limit : ℕ) (table₀ work₀ : List ℕ) (at n : ℕ) where

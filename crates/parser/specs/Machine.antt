@@ -3,11 +3,12 @@ use Rattle.std.specs.Prelude.{◌≡◌, List, [], ◌∷◌, Bool, true, false,
 use Rattle.token.specs.declared.Token.{Token}
 use Rattle.terms.specs.Forms.{Edition, arity_of, holds_span_in}
 use Rattle.surface.specs.Reader.{Position, Reader, nowhere}
-use Rattle.surface.specs.Reading.{Beginning, beginning, closing}
+use Rattle.surface.specs.Reading.{Beginning, beginning, closing, term}
 use Rattle.rows.specs.Places.{stored_at}
 use Rattle.frames.specs.Frames.{OpenFrame, open_frames}
 use Rattle.expects.specs.Expects.{position_at}
-use Rattle.term_rows.specs.TermRows.{within}
+use Rattle.term_rows.specs.TermRows.{Reads}
+use Rattle.term_rows.specs.declared.TermRead.{TermRead}
 use Rattle.parser.specs.TermRows.{RowResult, done, refused, term_rows, resume}
 use Rattle.parser.specs.declared.State.{State}
 use Rattle.parser.specs.declared.TermStep.{TermStep}
@@ -99,4 +100,9 @@ first_state at n = record { at = at; rows = n; depth = 0; deepest = 0; value = 0
 
 -- Whether it is inside, by the lengths of the source and of the work area.
 abbrev pub ready : ℕ → ℕ → ℕ → ℕ → Bool
-ready source area at n = leb 5632 area && within source at n
+ready source area at n = leb source 4294967295 && (leb 5632 area && (leb at source && leb n at))
+
+-- r is the answer for it, where it is inside.
+abbrev pub ReadsTerm : Edition → ℕ → List ℕ → List ℕ → List ℕ → ℕ → ℕ → TermRead → List ℕ → Type 0
+ReadsTerm E limit s table work at n r table₁ =
+    TermInside 512 s work (first_state at n) → Reads (holds_span_in E.forms) n table (term (beginning E s) (closing (E.tokens s)) limit 512 (position_at at n)) r table₁

@@ -5,8 +5,8 @@
 ghost use Rattle.std.specs.Prelude.{◌≡◌, true, false, ◌<◌, ◌≤◌, length};
 ghost use Rattle.token.specs.Classes.{ClassTable};
 ghost use Rattle.expects.specs.Formats.{edition};
-ghost use Rattle.term_rows.specs.TermRows.{pushed_row, ReadsTerm};
-ghost use Rattle.parser.specs.Machine.{setting, pushed_term, ended, TermInside, Steps, ready};
+ghost use Rattle.term_rows.specs.TermRows.{pushed_row, ReadsTerm as ReadsByLengths};
+ghost use Rattle.parser.specs.Machine.{setting, pushed_term, ended, TermInside, Steps, ready, ReadsTerm};
 
 use expects::{Begun, Format};
 use term_rows::TermRead;
@@ -17,6 +17,8 @@ const FRAMES: usize = 512;
 
 // The words of so many frames.
 const AREA: usize = 5632;
+
+const LONGEST: usize = 4294967295;
 
 // Between two steps of reading a term: where reading goes on, how many rows are stored, how many frames are open and how many
 // were at most, and whether a term has just been completed, with its row.
@@ -193,10 +195,16 @@ fn is_ended(st: State) -> bool
 fn is_ready(source: usize, area: usize, at: usize, rows: usize) -> bool
     ensures { result ≡ ready source area at rows }
 {
+    if LONGEST < source {
+        return false;
+    }
     if area < AREA {
         return false;
     }
-    term_rows::is_within(source, at, rows)
+    if source < at {
+        return false;
+    }
+    rows <= at
 }
 
 // The port of `parse_term`: a whole type or body of a format from `at` on, behind the rows that are stored, where there is room for
@@ -212,7 +220,8 @@ pub fn read_term(
     format: Format,
 ) -> TermRead
     requires { ClassTable classes.now }
-    ensures { 5632 ≤ length work.old → ReadsTerm (edition format) limit s.now table.old at rows result table.new }
+    ensures term { ReadsTerm (edition format) limit s.now table.old work.old at rows result table.new }
+    ensures by_lengths { 5632 ≤ length work.old → ReadsByLengths (edition format) limit s.now table.old at rows result table.new }
 {
     if !is_ready(s.len(), work.len(), at, rows) {
         return TermRead::Refused(expects::refused_nowhere(11));

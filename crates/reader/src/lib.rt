@@ -336,7 +336,7 @@ fn next_declaration(
 }
 
 // Declarations of a format from an offset to their end, into empty tables.
-pub fn read_declarations(
+pub fn read_declarations_by(
     s: &[u8],
     classes: &[u8],
     table: &mut [u32],
@@ -384,6 +384,33 @@ pub fn read_declarations(
     }
 }
 
+// The same by the frame reader.
+pub fn read_declarations(
+    s: &[u8],
+    classes: &[u8],
+    table: &mut [u32],
+    list: &mut [u32],
+    work: &mut [u32],
+    from: usize,
+    limits: Limits,
+    format: Format,
+) -> DeclarationsRead
+    requires { ClassTable classes.now }
+    ensures { ReadsDeclarations format limits s.now table.old list.old work.old from result table.new list.new }
+{
+    read_declarations_by(
+        s,
+        classes,
+        table,
+        list,
+        work,
+        from,
+        limits,
+        format,
+        Method::Frames,
+    )
+}
+
 // The port of `parse_module`. Rows and declarations are counted against the limits; what a table has no place for is left out of it.
 fn read_by(
     s: &[u8],
@@ -401,7 +428,9 @@ fn read_by(
     match h {
         HeadRead::Refused(r) => ModuleMeasured::Refused(r),
         HeadRead::Name(format, _, next) => {
-            let d = read_declarations(s, classes, table, list, work, next, limits, format, method);
+            let d = read_declarations_by(
+                s, classes, table, list, work, next, limits, format, method,
+            );
             match d {
                 DeclarationsRead::Refused(r) => ModuleMeasured::Refused(r),
                 DeclarationsRead::Done {
@@ -420,7 +449,7 @@ fn read_by(
 }
 
 // Here reading begins, and the table of byte classes is made. With tables that have no place for anything it only counts.
-pub fn measure_within(
+pub fn measure_within_by(
     s: &[u8],
     table: &mut [u32],
     list: &mut [u32],
@@ -434,8 +463,21 @@ pub fn measure_within(
     read_by(s, &classes, table, list, work, limits, method)
 }
 
+// The same by the frame reader.
+pub fn measure_within(
+    s: &[u8],
+    table: &mut [u32],
+    list: &mut [u32],
+    work: &mut [u32],
+    limits: Limits,
+) -> ModuleMeasured
+    ensures { length s.now ≤ 4294967295 → 5632 ≤ length work.old → Measures limits (read_module s.now limits.rows limits.declarations 512 start) table.old list.old result table.new list.new }
+{
+    measure_within_by(s, table, list, work, limits, Method::Frames)
+}
+
 // The same where the tables say how much there is room for, and the frames are not told: "words divided by 8, rounded down", "words divided by 5, rounded down".
-pub fn read_module(
+pub fn read_module_by(
     s: &[u8],
     table: &mut [u32],
     list: &mut [u32],
@@ -448,7 +490,7 @@ pub fn read_module(
         rows: table.len() / 8,
         declarations: list.len() / 5,
     };
-    let measured = measure_within(s, table, list, work, limits, method);
+    let measured = measure_within_by(s, table, list, work, limits, method);
     match measured {
         ModuleMeasured::Refused(r) => ModuleRead::Refused(r),
         ModuleMeasured::Done {
@@ -460,4 +502,11 @@ pub fn read_module(
             declarations: declarations,
         },
     }
+}
+
+// The same by the frame reader.
+pub fn read_module(s: &[u8], table: &mut [u32], list: &mut [u32], work: &mut [u32]) -> ModuleRead
+    ensures { length s.now ≤ 65535 → 16384 ≤ length work.old → ReadsModule (read_module s.now (length table.old / 8) (length list.old / 5) 512 start) table.old list.old result table.new list.new }
+{
+    read_module_by(s, table, list, work, Method::Frames)
 }

@@ -6,7 +6,7 @@ ghost use Rattle.least_storage.specs.Storage.{storage, Stores};
 
 use least_storage::Storage;
 use loader::Tested;
-use reader::{Limits, Method, ModuleMeasured};
+use reader::{Limits, ModuleMeasured};
 
 // The frame reader with tables that have no place for a row or a record: it counts both, and no source has more than it has bytes.
 fn measure(s: &[u8], work: &mut [u32]) -> Storage
@@ -22,14 +22,7 @@ fn measure(s: &[u8], work: &mut [u32]) -> Storage
                 rows: s.len(),
                 declarations: s.len(),
             };
-            let measured = reader::measure_within(
-                s,
-                &mut rows,
-                &mut records,
-                work,
-                limits,
-                Method::Frames,
-            );
+            let measured = reader::measure_within(s, &mut rows, &mut records, work, limits);
             match measured {
                 ModuleMeasured::Refused(refusal) => Storage::Refused(refusal),
                 ModuleMeasured::Done {

@@ -12,11 +12,11 @@ returns-in-Refused-d c =
     let a = c.args in
     λ short wide.
     module_refused a.limits a.s.now a.table.now a.list.now c.read_head-h.result c.read_head-h.ensures _ _ _ c.in-Name.is a.work.now short wide
-    c.read_declarations-d.result c.read_declarations-d.new.table c.read_declarations-d.new.list c.read_declarations-d.ensures _ c.in-Refused-d.is
+    c.read_declarations_by-d.result c.read_declarations_by-d.new.table c.read_declarations_by-d.new.list c.read_declarations_by-d.ensures _ c.in-Refused-d.is
 
 pub returns-in-Done : goal.returns-in-Done
 returns-in-Done c =
     let a = c.args in
     λ short wide.
     module_done a.limits a.s.now a.table.now a.list.now c.read_head-h.result c.read_head-h.ensures _ _ _ c.in-Name.is a.work.now short wide
-    c.read_declarations-d.result c.read_declarations-d.new.table c.read_declarations-d.new.list c.read_declarations-d.ensures _ _ _ _ c.in-Done.is
+    c.read_declarations_by-d.result c.read_declarations_by-d.new.table c.read_declarations_by-d.new.list c.read_declarations_by-d.ensures _ _ _ _ c.in-Done.is

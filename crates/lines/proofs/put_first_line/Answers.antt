@@ -1,0 +1,18 @@
+-- `lines::put_first_line` meets its contract.
+use mathlib.Core.List.{[], ◌∷◌}
+use Rattle.words.specs.Words.{ascii}
+use Rattle.text.proofs.Writing.{piece, ensured, ◌then◌}
+use Rattle.text.specs.Text.{decimal}
+use Rattle.lines.specs.Listing.{first_line}
+use Rattle.lines.proofs.put_first_line.Goals as goal
+
+pub returns : goal.returns
+unfolding first_line
+returns c =
+    let whole = let a = c.args in
+    ensured a.out.now a.at _
+    (piece (ascii "nodes ") c.put-pos.ensures
+    then piece (decimal a.rows) c.put_decimal-pos.ensures
+    then piece (ascii " declarations ") c.put-pos-2.ensures
+    then piece (decimal a.count) c.put_decimal-pos-2.ensures
+    then piece (10 ∷ []) c.put_byte.ensures) in record { out_after = whole.0; value = whole.1 }

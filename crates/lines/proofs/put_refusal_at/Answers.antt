@@ -1,0 +1,17 @@
+-- `lines::put_refusal_at` meets its contract.
+use mathlib.Core.List.{[], ◌∷◌}
+use Rattle.words.specs.Words.{ascii}
+use Rattle.text.specs.Text.{decimal}
+use Rattle.text.proofs.Writing.{piece, ensured, ◌then◌}
+use Rattle.lines.specs.Listing.{refusal_line, place_text}
+use Rattle.lines.proofs.put_refusal_at.Goals as goal
+
+pub returns : goal.returns
+unfolding refusal_line
+returns c =
+    let whole = let a = c.args in
+    ensured a.out.now a.at (refusal_line a.refusal)
+    (piece (ascii "refused ") c.put-pos.ensures
+    then piece (decimal a.refusal.class) c.put_decimal-pos.ensures
+    then piece (place_text a.refusal.place) c.put_place-pos.ensures
+    then piece (10 ∷ []) c.put_byte.ensures) in record { out_after = whole.0; value = whole.1 }
