@@ -25,8 +25,8 @@ returns c =
     let n = ap₂ (λ (x y : ℕ). spaced (part s x y)) (w 1) (w 2) in
     let f = ap (λ (l : List ℕ). declaration_rows l 0) row.ensures ∙ rows_from ds i in
     ensured a.out.now a.at _
-    (piece (decimal a.k) c.put_decimal-pos.ensures
-    then (piece (32 ∷ []) c.put_byte-pos.ensures then same_text (ap declaration_word e) (piece (declaration_word kind.result) c.put_declaration_word-pos.ensures))
-    then same_text n (piece (spaced (part s (get_or row.result.now 1 0) (get_or row.result.now 2 0))) c.put_span-pos.ensures)
-    then same_text f (piece (declaration_rows row.result.now 0) c.put_declaration_rows-end.ensures)
-    then piece (10 ∷ []) c.put_byte.ensures) in record { out_after = whole.0; value = whole.1 }
+    (piece (decimal a.k) (c.put_decimal-pos.ensures.out_after, c.put_decimal-pos.ensures.value)
+    then (piece (32 ∷ []) (c.put_byte-pos.ensures.out_after, c.put_byte-pos.ensures.value) then same_text (ap declaration_word e) (piece (declaration_word kind.result) (c.put_declaration_word-pos.ensures.out_after, c.put_declaration_word-pos.ensures.value)))
+    then same_text n (piece (spaced (part s (get_or row.result.now 1 0) (get_or row.result.now 2 0))) (c.put_span-pos.ensures.out_after, c.put_span-pos.ensures.value))
+    then same_text f (piece (declaration_rows row.result.now 0) (c.put_declaration_rows-end.ensures.out_after, c.put_declaration_rows-end.ensures.value))
+    then piece (10 ∷ []) (c.put_byte.ensures.out_after, c.put_byte.ensures.value)) in record { out_after = whole.0; value = whole.1 }

@@ -5,10 +5,10 @@ use Rattle.lines.proofs.put_declaration_rows.Goals as goal
 
 pub returns-then-word_at-eq1 : goal.returns-then-word_at-eq1
 returns-then-word_at-eq1 c =
-    let whole = let a = c.args in
-    rw (rows_one a.declaration.now 0 (sym c.word_at.ensures ∙ c.if-word_at-eq1.true)) c.put_numbers.ensures in record { out_after = whole.0; value = whole.1 }
+    let a = c.args in
+    record { out_after = rw (rows_one a.declaration.now 0 (sym c.word_at.ensures ∙ c.if-word_at-eq1.true)) c.put_numbers.ensures.out_after; value = rw (rows_one a.declaration.now 0 (sym c.word_at.ensures ∙ c.if-word_at-eq1.true)) c.put_numbers.ensures.value }
 
 pub returns : goal.returns
 returns c =
-    let whole = let a = c.args in
-    rw (rows_two a.declaration.now 0 (λ e. c.if-word_at-eq1.false (c.word_at.ensures ∙ e))) c.put_numbers-2.ensures in record { out_after = whole.0; value = whole.1 }
+    let a = c.args in
+    record { out_after = rw (rows_two a.declaration.now 0 (λ e. c.if-word_at-eq1.false (c.word_at.ensures ∙ e))) c.put_numbers-2.ensures.out_after; value = rw (rows_two a.declaration.now 0 (λ e. c.if-word_at-eq1.false (c.word_at.ensures ∙ e))) c.put_numbers-2.ensures.value }

@@ -5,19 +5,19 @@ use Rattle.lines.proofs.put_declaration_word.Goals as goal
 
 pub returns-in-1 : goal.returns-in-1
 unfolding declaration_word
-returns-in-1 c = let whole = rw c.in-1.is c.put.ensures in record { out_after = whole.0; value = whole.1 }
+returns-in-1 c = record { out_after = rw c.in-1.is c.put.ensures.out_after; value = rw c.in-1.is c.put.ensures.value }
 
 pub returns-in-2 : goal.returns-in-2
 unfolding declaration_word
-returns-in-2 c = let whole = rw c.in-2.is c.put-in-2.ensures in record { out_after = whole.0; value = whole.1 }
+returns-in-2 c = record { out_after = rw c.in-2.is c.put-in-2.ensures.out_after; value = rw c.in-2.is c.put-in-2.ensures.value }
 
 pub returns-in-3 : goal.returns-in-3
 unfolding declaration_word
-returns-in-3 c = let whole = rw c.in-3.is c.put-in-3.ensures in record { out_after = whole.0; value = whole.1 }
+returns-in-3 c = record { out_after = rw c.in-3.is c.put-in-3.ensures.out_after; value = rw c.in-3.is c.put-in-3.ensures.value }
 
 pub returns-in_default : goal.returns-in_default
 unfolding declaration_word
 returns-in_default c =
-    let whole = let k = c.args.kind in
+    let k = c.args.kind in
     let m = c.in_default.in_default-own.rest in
-    rw (ne_eqb k 1 m.0.0.1, ne_eqb k 2 m.0.1, ne_eqb k 3 m.1, declaration_word) c.put-in_default.ensures in record { out_after = whole.0; value = whole.1 }
+    record { out_after = rw (ne_eqb k 1 m.0.0.1, ne_eqb k 2 m.0.1, ne_eqb k 3 m.1, declaration_word) c.put-in_default.ensures.out_after; value = rw (ne_eqb k 1 m.0.0.1, ne_eqb k 2 m.0.1, ne_eqb k 3 m.1, declaration_word) c.put-in_default.ensures.value }

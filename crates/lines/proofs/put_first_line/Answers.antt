@@ -11,8 +11,8 @@ unfolding first_line
 returns c =
     let whole = let a = c.args in
     ensured a.out.now a.at _
-    (piece (ascii "nodes ") c.put-pos.ensures
-    then piece (decimal a.rows) c.put_decimal-pos.ensures
-    then piece (ascii " declarations ") c.put-pos-2.ensures
-    then piece (decimal a.count) c.put_decimal-pos-2.ensures
-    then piece (10 ∷ []) c.put_byte.ensures) in record { out_after = whole.0; value = whole.1 }
+    (piece (ascii "nodes ") (c.put-pos.ensures.out_after, c.put-pos.ensures.value)
+    then piece (decimal a.rows) (c.put_decimal-pos.ensures.out_after, c.put_decimal-pos.ensures.value)
+    then piece (ascii " declarations ") (c.put-pos-2.ensures.out_after, c.put-pos-2.ensures.value)
+    then piece (decimal a.count) (c.put_decimal-pos-2.ensures.out_after, c.put_decimal-pos-2.ensures.value)
+    then piece (10 ∷ []) (c.put_byte.ensures.out_after, c.put_byte.ensures.value)) in record { out_after = whole.0; value = whole.1 }

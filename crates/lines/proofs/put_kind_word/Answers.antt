@@ -5,4 +5,4 @@ use Rattle.lines.proofs.put_kind_word.Goals as goal
 
 pub returns : goal.returns
 unfolding words word_of_kind kind_word
-returns c = let whole = rw (← c.kind_at-k.ensures.result_value) c.put_part.ensures in record { out_after = whole.0; value = whole.1 }
+returns c = record { out_after = rw (← c.kind_at-k.ensures.result_value) c.put_part.ensures.out_after; value = rw (← c.kind_at-k.ensures.result_value) c.put_part.ensures.value }

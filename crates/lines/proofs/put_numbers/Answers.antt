@@ -14,7 +14,7 @@ pub loop-j-init : goal.loop-j-init
 unfolding numbers
 loop-j-init c =
     let a = c.args in
-    (put_none (piece {out = a.out.now} {at = a.at} [] c.put-pos.ensures), search rules)
+    (put_none (piece {out = a.out.now} {at = a.at} [] (c.put-pos.ensures.out_after, c.put-pos.ensures.value)), search rules)
 
 pub loop-j-preserved : goal.loop-j-preserved
 loop-j-preserved c =
@@ -22,18 +22,18 @@ loop-j-preserved c =
     let l = c.loop-j in
     let w = c.word_at-word in (
       same_text (sym (numbers_more a.t.now a.i l.j))
-          (l.invariant.0 then same_text (ap (λ (x : ℕ). spaced (decimal x)) w.ensures) (piece (spaced (decimal w.result)) c.put_number-pos.ensures)),
+          (l.invariant.0 then same_text (ap (λ (x : ℕ). spaced (decimal x)) w.ensures) (piece (spaced (decimal w.result)) (c.put_number-pos.ensures.out_after, c.put_number-pos.ensures.value))),
       search rules,
     )
 
 pub shape_of-out : goal.shape_of-out
 shape_of-out c =
     let a = c.args in
-    put_length (piece {out = a.out.now} {at = a.at} [] c.put-pos.ensures then c.loop-j.invariant.0)
+    put_length (piece {out = a.out.now} {at = a.at} [] (c.put-pos.ensures.out_after, c.put-pos.ensures.value) then c.loop-j.invariant.0)
 
 pub returns : goal.returns
 returns c =
     let whole = let a = c.args in
     let l = c.loop-j in
     let e : l.j ≡ a.n = omega arith in
-    ensured a.out.now a.at _ (piece [] c.put-pos.ensures then same_text (ap (λ (x : ℕ). numbers x a.t.now a.i) e) l.invariant.0) in record { out_after = whole.0; value = whole.1 }
+    ensured a.out.now a.at _ (piece [] (c.put-pos.ensures.out_after, c.put-pos.ensures.value) then same_text (ap (λ (x : ℕ). numbers x a.t.now a.i) e) l.invariant.0) in record { out_after = whole.0; value = whole.1 }

@@ -2,4 +2,4 @@
 use Rattle.lines.proofs.put_part.Goals as goal
 
 pub returns : goal.returns
-returns c = let whole = rw (← c.atom.ensures) c.put.ensures in record { out_after = whole.0; value = whole.1 }
+returns c = record { out_after = rw (← c.atom.ensures) c.put.ensures.out_after; value = rw (← c.atom.ensures) c.put.ensures.value }

@@ -8,11 +8,10 @@ use Rattle.lines.proofs.put_place.Goals as goal
 pub returns-in-At : goal.returns-in-At
 unfolding place_text
 returns-in-At c =
-    let whole = let a = c.args in
-    let p = c.place-1.given in
-    rw p.1
-    (ensured a.out.now a.at _ (piece (ascii " at ") c.put-next.ensures then piece (decimal p.0.0) c.put_decimal.ensures)) in record { out_after = whole.0; value = whole.1 }
+    let a = c.args in
+    let pair = ensured a.out.now a.at _ (piece (ascii " at ") (c.put-next.ensures.out_after, c.put-next.ensures.value) then piece (decimal c.in-At.p) (c.put_decimal.ensures.out_after, c.put_decimal.ensures.value)) in
+    record { out_after = rw c.in-At.is pair.0; value = rw c.in-At.is pair.1 }
 
 pub returns-in-Nowhere : goal.returns-in-Nowhere
 unfolding place_text
-returns-in-Nowhere c = let whole = rw c.in-Nowhere.is c.put.ensures in record { out_after = whole.0; value = whole.1 }
+returns-in-Nowhere c = record { out_after = rw c.in-Nowhere.is c.put.ensures.out_after; value = rw c.in-Nowhere.is c.put.ensures.value }

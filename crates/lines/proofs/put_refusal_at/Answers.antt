@@ -11,7 +11,7 @@ unfolding refusal_line
 returns c =
     let whole = let a = c.args in
     ensured a.out.now a.at (refusal_line a.refusal)
-    (piece (ascii "refused ") c.put-pos.ensures
-    then piece (decimal a.refusal.class) c.put_decimal-pos.ensures
-    then piece (place_text a.refusal.place) c.put_place-pos.ensures
-    then piece (10 ∷ []) c.put_byte.ensures) in record { out_after = whole.0; value = whole.1 }
+    (piece (ascii "refused ") (c.put-pos.ensures.out_after, c.put-pos.ensures.value)
+    then piece (decimal a.refusal.class) (c.put_decimal-pos.ensures.out_after, c.put_decimal-pos.ensures.value)
+    then piece (place_text a.refusal.place) (c.put_place-pos.ensures.out_after, c.put_place-pos.ensures.value)
+    then piece (10 ∷ []) (c.put_byte.ensures.out_after, c.put_byte.ensures.value)) in record { out_after = whole.0; value = whole.1 }
