@@ -1,10 +1,9 @@
 -- A table whose words are cleared one after the other, from a word on.
 use Prim.Native.Nat.{ℕ, suc, ◌+◌, ◌-◌, ◌≤◌, ◌<◌}
-use mathlib.Core.Path.{◌≡◌, refl, sym, ap, ap₂, ◌∙◌}
-use mathlib.Core.List.{List, [], ◌∷◌, ◌++◌, append-nil}
+use mathlib.Core.Path.{◌≡◌, sym, ap, ap₂, ◌∙◌}
+use mathlib.Core.List.{List, ◌++◌, append-nil}
 use native.Mathlib.Omega.{arith}
-use native.Mathlib.Numerals.{add-one}
-use lib.ListN.{length, get_or, take, drop, set, replicate, length-replicate, get_or-replicate, drop_of_length-le}
+use lib.ListN.{length, take, set, replicate, length-replicate, get_or-replicate, drop_of_length-le}
 use lib.Seq.{paste, paste-zero, paste-suc, take_all}
 use Rattle.tables.specs.Tables.{cleared}
 

@@ -1,14 +1,14 @@
 -- A run of words stored one after the other, and what the table then holds.
-use Prim.Native.Nat.{ℕ, ◌+◌, ◌-◌, ◌≤◌, ◌<◌}
-use mathlib.Core.Path.{◌≡◌, refl, sym, ap, ap₂, ◌∙◌}
-use mathlib.Core.Bool.{Bool, true, false, cond}
-use mathlib.Core.List.{List, [], ◌∷◌, ◌++◌}
+use Prim.Native.Nat.{ℕ, ◌+◌, ◌≤◌, ◌<◌}
+use mathlib.Core.Path.{◌≡◌, sym, ap, ◌∙◌}
+use mathlib.Core.Bool.{Bool, cond}
+use mathlib.Core.List.{List, ◌++◌}
 use native.Mathlib.Omega.{arith}
 use native.Mathlib.Numerals.{add-one}
-use lib.ListN.{length, get_or, take, drop, set, length-set}
-use lib.Seq.{paste, paste-zero, paste-suc, length-paste, take-paste, drop-paste, take-length}
+use lib.ListN.{length, get_or, take, drop, set}
+use lib.Seq.{paste, paste-zero, paste-suc, take-length}
 use borrow.Author.Tests.{le-leb, lt-leb}
-use Rattle.tables.specs.Tables.{fits, with_words, stored}
+use Rattle.tables.specs.Tables.{with_words, stored}
 
 module _ (t : List ℕ) (at : ℕ) (ws : List ℕ) where
   -- The first i words are stored.

@@ -1,6 +1,5 @@
 -- `find_indexed` meets its contract.
 use mathlib.Core.Path.{sym, ap, ◌∙◌, subst}
-use mathlib.Core.Logic.{⊎_elim}
 use native.Mathlib.Omega.{arith}
 use Rattle.terms.specs.Label.{Name}
 use Rattle.terms.specs.Resolution.{find}

@@ -1,7 +1,6 @@
 -- `find_local` meets its contract: the names passed are other names.
 use Prim.Native.Nat.{◌+◌, ◌-◌, ◌*◌}
 use mathlib.Core.Path.{sym, ◌∙◌, ap}
-use mathlib.Core.Logic.{⊎_elim}
 use native.Mathlib.Omega.{arith}
 use lib.ListN.{get_or}
 use Rattle.terms.specs.Label.{Name}
@@ -34,9 +33,9 @@ loop-d-preserved c =
       omega (arith, c.loop-d.invariant.0),
       miss x _ _ _ c.loop-d.invariant.1 _ _ (innermost a.s.now a.work.now c.loop-d.d (omega arith))
           (elim c.if-x-n.branch [
-            then-x-n+then-is_name+else-kind-ne-ARROW u ↦ bound_arrow (get_or a.work.now (1536 + c.loop-d.d - 1) 0) x _ u.if-kind-ne-ARROW.false
-          | then-x-n+else-is_name w ↦ bound_other (get_or a.work.now (1536 + c.loop-d.d - 1) 0) x _ (sym w.is_name.ensures ∙ w.if-is_name.false)
-          | else-x-n w ↦ bound_other (get_or a.work.now (1536 + c.loop-d.d - 1) 0) x _ (longer x a.s.now (get_or a.work.now (c.loop-d.d * 2 - 2) 0) _ w.if-x-n.false)
+            | then-x-n+then-is_name+else-kind-ne-ARROW u ↦ bound_arrow (get_or a.work.now (1536 + c.loop-d.d - 1) 0) x _ u.if-kind-ne-ARROW.false
+            | then-x-n+else-is_name w ↦ bound_other (get_or a.work.now (1536 + c.loop-d.d - 1) 0) x _ (sym w.is_name.ensures ∙ w.if-is_name.false)
+            | else-x-n w ↦ bound_other (get_or a.work.now (1536 + c.loop-d.d - 1) 0) x _ (longer x a.s.now (get_or a.work.now (c.loop-d.d * 2 - 2) 0) _ w.if-x-n.false)
           ]) _ (omega (arith, c.loop-d.invariant.0)),
     )
 

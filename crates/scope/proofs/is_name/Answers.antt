@@ -1,7 +1,6 @@
 -- `is_name` meets its contract: n is the length of the part.
 use Prim.Native.Nat.{ℕ, ◌+◌, ◌≤◌}
 use mathlib.Core.Path.{◌≡◌, ap, ◌∙◌}
-use mathlib.Core.Logic.{⊎_elim}
 use mathlib.Core.List.{List}
 use native.Mathlib.Nat.{add-sub_cancel_left}
 use native.Mathlib.Omega.{arith}
@@ -25,8 +24,8 @@ compared c =
     let a = c.args in
     let first : ℕ → List ℕ = λ k. take k (drop a.start a.s.now) in
     elim c.if-s-a.branch [
-      then-s-a+else-s-a-2 w ↦ (omega (arith, w.if-s-a.true, w.if-s-a-2.false, w.n-is), ap first w.n-is ∙ cut_off a.s.now a.start a.length (omega (arith, w.if-s-a.true)))
-    | else-s-a w ↦ (omega (arith, w.if-s-a.false, w.n-is), ap first w.n-is)
+      | then-s-a+else-s-a-2 w ↦ (omega (arith, w.if-s-a.true, w.if-s-a-2.false, w.n-is), ap first w.n-is ∙ cut_off a.s.now a.start a.length (omega (arith, w.if-s-a.true)))
+      | else-s-a w ↦ (omega (arith, w.if-s-a.false, w.n-is), ap first w.n-is)
     ]
 
 pub overflow_add-a-2 : goal.overflow_add-a-2

@@ -1,5 +1,4 @@
 -- `mix` meets its contract: the bytes before i are taken in.
-use Prim.Native.Nat.{◌-◌}
 use mathlib.Core.Path.{refl, sym, ◌∙◌}
 use native.Mathlib.Omega.{arith}
 use native.Mathlib.Nat.{mod-lt}

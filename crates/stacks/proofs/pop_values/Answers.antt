@@ -1,5 +1,4 @@
 -- `pop_values` meets its contract.
-use Prim.Native.Nat.{◌-◌}
 use mathlib.Core.Path.{refl, ◌∙◌, ap}
 use native.Mathlib.Omega.{arith}
 use Rattle.stacks.proofs.Popping.{popped, popped_none, popped_more}
