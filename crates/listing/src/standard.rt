@@ -1,7 +1,8 @@
 // Standard input and output, so that the end of the input is told from a read that failed, and a text that was written from one
 // that was not. A call that a signal interrupts is made again.
-ghost use Rattle.std.specs.Prelude.{◌≤◌, length};
-ghost use Rattle.listing.specs.Moved.{Within, Read};
+ghost use Rattle.std.specs.Prelude.{◌≡◌, ◌≤◌, ◌<◌, length, take, OnOk};
+ghost use Rattle.std.specs.Io.KnownBytes.{Appends};
+ghost use Rattle.listing.specs.Moved.{Within, Read, Gives, Fills};
 
 use std::io::{Cursor, ErrorKind, Read, Write};
 use std::{io, str};
@@ -23,8 +24,10 @@ pub enum Input {
 }
 
 fn read_from<R: Read>(input: &mut R, buf: &mut [u8], from: usize) -> Transfer
-    requires { from ≤ length buf.old }
-    ensures { Within (length buf.new) result }
+    requires { from < length buf.old }
+    ensures within { Within (length buf.new) result }
+    ensures kept { take from buf.new ≡ take from buf.old }
+    ensures bytes { Gives (R.remaining input.old) (R.remaining input.new) from buf.new result }
 {
     match input.read(&mut buf[from..]) {
         Ok(0) => Transfer::Nothing,
@@ -40,7 +43,8 @@ fn read_from<R: Read>(input: &mut R, buf: &mut [u8], from: usize) -> Transfer
 
 // A proved loop has to end, and nothing says that signals do: it counts its turns down, from a number that no run uses up.
 pub fn read_input<R: Read>(input: &mut R, buf: &mut [u8]) -> Input
-    ensures { Read (length buf.new) result }
+    ensures within { Read (length buf.new) result }
+    ensures bytes { Fills (R.remaining input.old) (R.remaining input.new) buf.new result }
 {
     let mut done = 0;
     let mut turns = u64::MAX;
@@ -68,7 +72,9 @@ pub fn read_input<R: Read>(input: &mut R, buf: &mut [u8]) -> Input
 }
 
 // All of the text is written, or a call failed.
-pub fn write_output<W: Write>(output: &mut W, text: &[u8]) -> io::Result<()> {
+pub fn write_output<W: Write>(output: &mut W, text: &[u8]) -> io::Result<()>
+    ensures { OnOk result (Appends (W.contents output.old) (W.contents output.new) text.now) }
+{
     output.write_all(text)
 }
 
