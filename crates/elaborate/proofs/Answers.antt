@@ -10,11 +10,11 @@ use native.Mathlib.Decide.{dec_le}
 use lib.Dec.{leb}
 use lib.ListN.{length, get_or, replicate, length-replicate, get_or-replicate, get_or-eq_default}
 use Rattle.terms.specs.Label.{part}
-use Rattle.terms.specs.Resolution.{find, refused_name}
+use Rattle.terms.specs.Resolution.{find}
 use Rattle.scope.specs.Scope.{declared_names}
 use Rattle.elaborate.specs.RowTerm.{TermOutcome, done, unknown_at, and_then, row_term}
 use Rattle.elaborate.specs.Machine.{Answered}
-use Rattle.elaborate.specs.Declarations.{Fitting, Whether, Blank, ModuleOutcome, refused, module_outcome, parts_outcome, record_word, declaration_outcome, Declared}
+use Rattle.elaborate.specs.Declarations.{Fitting, Whether, Blank, ModuleOutcome, parts_outcome, record_word, declaration_outcome, Declared}
 use Rattle.elaborate.specs.declared.TermDone.{TermDone}
 use Rattle.elaborate.specs.declared.Elaborated.{Elaborated}
 

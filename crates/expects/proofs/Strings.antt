@@ -13,7 +13,7 @@ use Rattle.token.proofs.Bounds.{Within}
 use Rattle.core_token.specs.CoreToken.{next_core_token}
 use Rattle.core_token.proofs.Bounds.{bounds}
 use Rattle.core_token.proofs.Ends.{string_here}
-use Rattle.surface.specs.Reader.{refused, after, ◌>>◌, pure, require, at_token}
+use Rattle.surface.specs.Reader.{refused, ◌>>◌, pure, require, at_token}
 use Rattle.surface.specs.Reading.{token}
 use Rattle.surface.specs.Text.{is_string}
 use Rattle.core_text.specs.TextReading.{string}

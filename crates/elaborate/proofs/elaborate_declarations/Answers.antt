@@ -1,5 +1,4 @@
 -- `elaborate_declarations` meets its contract: what all declarations come to is what the rest comes to.
-use Prim.Native.Nat.{◌-◌}
 use mathlib.Core.Path.{refl, ◌∙◌}
 use native.Mathlib.Omega.{arith}
 use Rattle.scope.proofs.Index.{indexed_none}

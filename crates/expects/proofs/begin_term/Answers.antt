@@ -1,9 +1,7 @@
 -- `expects::begin_term` meets its contract.
 use Prim.Native.Nat.{ℕ}
 use mathlib.Core.Path.{◌≡◌, sym, ◌∙◌}
-use mathlib.Core.List.{[], ◌∷◌}
 use native.Mathlib.Omega.{arith}
-use types.Run.{miss}
 use Rattle.token.specs.declared.TokenKind.{TokenKind}
 use Rattle.expects.specs.Formats.{edition}
 use Rattle.expects.proofs.Formats.{bounded}

@@ -1,6 +1,4 @@
 -- `expects::blank_end` meets its contract.
-use mathlib.Core.List.{[], ◌∷◌}
-use types.Run.{miss}
 use Rattle.expects.proofs.Formats.{source_tokens}
 use Rattle.expects.proofs.Identifiers.{blank_same}
 use Rattle.expects.proofs.blank_end.Goals as goal

@@ -1,6 +1,4 @@
 -- `expects::is_ending` meets its contract.
-use mathlib.Core.List.{[], ◌∷◌}
-use types.Run.{miss}
 use Rattle.expects.proofs.Formats.{core_ends, source_ends}
 use Rattle.expects.proofs.is_ending.Goals as goal
 

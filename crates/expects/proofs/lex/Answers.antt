@@ -1,6 +1,4 @@
 -- `expects::lex` meets its contract.
-use mathlib.Core.List.{[], ◌∷◌}
-use types.Run.{miss}
 use Rattle.core_text.specs.TextReading.{text_edition}
 use Rattle.expects.specs.declared.Format.{Format}
 use Rattle.expects.proofs.Formats.{lexes, tokens_by}

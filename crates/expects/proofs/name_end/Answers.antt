@@ -1,6 +1,4 @@
 -- `expects::name_end` meets its contract.
-use mathlib.Core.List.{[], ◌∷◌}
-use types.Run.{miss}
 use native.Mathlib.Omega.{arith}
 use Rattle.expects.proofs.Formats.{source_tokens}
 use Rattle.expects.proofs.name_end.Goals as goal

@@ -1,6 +1,4 @@
 -- `expects::parse_name` meets its contract.
-use mathlib.Core.List.{[], ◌∷◌}
-use types.Run.{miss}
 use Rattle.expects.specs.declared.Format.{Format}
 use Rattle.expects.proofs.Formats.{names_by, source_name}
 use Rattle.expects.proofs.parse_name.Goals as goal

@@ -1,7 +1,5 @@
 -- `expects::string_name` meets its contract.
-use mathlib.Core.List.{[], ◌∷◌}
 use native.Mathlib.Omega.{arith}
-use types.Run.{miss}
 use Rattle.expects.proofs.Strings.{string_refused, string_got, string_room, string_not}
 use Rattle.expects.proofs.string_name.Goals as goal
 
