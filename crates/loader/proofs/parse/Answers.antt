@@ -20,4 +20,4 @@ returns-in-Readable c =
     let a = c.args in
     let z = lengths_of a.surface.now [] a.declarations.now a.work.now in
     let tests = subst (Tests a.s.now (length a.work.now)) c.in-Readable.is c.test_source-tested.ensures in
-    same_reads _ _ _ _ _ _ _ (tests.reads z refl) (c.read_module.ensures (omega (arith, tests.short)) (omega (arith, tests.area)))
+    same_reads _ _ _ _ _ _ _ (tests.reads z refl) (c.read_module_by.ensures (omega (arith, tests.short)) (omega (arith, tests.area)))
