@@ -5,7 +5,7 @@ use Prim.Native.Nat.{ℕ, ◌≤◌}
 use Rattle.token.specs.declared.Token.{Token}
 use Rattle.terms.specs.Forms.{arity_of}
 use Rattle.terms.specs.Label.{Label}
-use Rattle.surface.specs.Reader.{Position, Result, done, Reader}
+use Rattle.surface.specs.Reader.{Position, done, Reader}
 use Rattle.surface.specs.Reading.{Beginning, frame, beginning, closing}
 use Rattle.expects.specs.declared.Format.{Format}
 use Rattle.expects.specs.Formats.{edition}

@@ -1,6 +1,5 @@
 -- `core_layout::is_canonical_layout` meets its contract. The loop's invariant: the layout of the whole text is that of the tokens from here on.
 -- The measure is what is left of the text.
-use Prim.Native.Nat.{◌-◌}
 use mathlib.Core.Path.{sym, ◌∙◌}
 use native.Mathlib.Omega.{arith}
 use borrow.Author.Tests.{not-true, not-false}

@@ -1,6 +1,4 @@
 -- `term_rows::holds_span` meets its contract.
-use mathlib.Core.List.{[], ◌∷◌}
-use types.Run.{miss}
 use Rattle.term_rows.proofs.Spans.{source_holds, text_holds}
 use Rattle.term_rows.proofs.holds_span.Goals as goal
 
