@@ -9,7 +9,7 @@ ghost use Rattle.record_list.specs.Left.{Left, used};
 use binding::Binding;
 use dependence::Dependence;
 use printing::Printed;
-use reader::{Method, ModuleRead};
+use reader::ModuleRead;
 use record_loader::{Question, Reply};
 use records::Declaration;
 use std::io;
@@ -199,17 +199,9 @@ fn print_asked(
     Ok(reply)
 }
 
-// Both readers load and read the source.
-fn print_read_by_both(rt: &impl Print, s: &[u8], text: &mut [u8]) -> io::Result<()> {
-    print_asked(rt, Question::Load(Method::Frames), s, text)?;
-    print_asked(rt, Question::Load(Method::Plain), s, text)?;
-    print_asked(rt, Question::Parse(Method::Frames), s, text)?;
-    print_asked(rt, Question::Parse(Method::Plain), s, text)?;
-    Ok(())
-}
-
 fn print_source(rt: &impl Print, s: &[u8], text: &mut [u8]) -> io::Result<()> {
-    print_read_by_both(rt, s, text)?;
+    print_asked(rt, Question::Load, s, text)?;
+    print_asked(rt, Question::Parse, s, text)?;
     print_asked(rt, Question::Depends(1, 0), s, text)?;
     print_asked(rt, Question::Depends(0, 1), s, text)?;
     print_asked(rt, Question::Binder(1), s, text)?;
@@ -236,8 +228,8 @@ fn main(rt: HostRuntime) -> io::Result<()> {
     rt.write_all(printed)?;
     print_core(&rt, printed, &mut short)?;
     let unknown = b"(surface 0 1)(module m)(postulate a (ref q))";
-    print_asked(&rt, Question::Load(Method::Plain), unknown, &mut short)?;
-    print_asked(&rt, Question::Parse(Method::Plain), unknown, &mut short)?;
+    print_asked(&rt, Question::Load, unknown, &mut short)?;
+    print_asked(&rt, Question::Parse, unknown, &mut short)?;
     print_asked(&rt, Question::Depends(0, 0), unknown, &mut short)?;
     print_asked(&rt, Question::Binder(0), unknown, &mut short)?;
     print_asked(&rt, Question::Print, unknown, &mut short)?;

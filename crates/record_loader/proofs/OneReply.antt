@@ -1,17 +1,15 @@
 -- The promise of `ask_records` leaves nothing free.
 use mathlib.Core.Path.{◌≡◌, refl, sym, ap, ◌∙◌}
-use mathlib.Core.Logic.{⊎_elim}
 use lib.ListN.{length}
 use Rattle.terms.specs.Rows.{pad}
 use Rattle.surface.specs.declared.Answer.{Answer}
 use Rattle.surface.specs.Tables.{Tables, tables, Left, leaves}
 use Rattle.binding.proofs.Statements as binding
 use Rattle.printing.specs.PrintCall.{PrintLeft}
-use Rattle.reader.specs.declared.Method.{Method}
 use Rattle.record_loader.specs.declared.Question.{Question}
 use Rattle.record_loader.specs.declared.Reply.{Reply}
 use Rattle.record_loader.specs.Replies.{bound_of, without_core, for_text, Besides}
-use Rattle.record_loader.specs.Statements.{OneReply, EitherReaderRecords}
+use Rattle.record_loader.specs.Statements.{OneReply}
 
 -- Two replies that hold what one definition gives.
 left_once : {A : Type 0} (reply : A → Reply) (r₁ r₂ : Reply) (a b : A) (t u : Tables) → r₁ ≡ reply a → r₂ ≡ reply b → leaves a t ≡ leaves b u → (r₁ ≡ r₂) × (t ≡ u)
@@ -30,9 +28,9 @@ read_once before after₁ after₂ r₁ r₂ a b h k e f g =
     let w = left_once Reply.Read r₁ r₂ a b (for_text after₁) (for_text after₂) h k e in (w.0, text_once before after₁ after₂ w.1 f g)
 
 pub one_reply : OneReply
-one_reply s (Question.Load m) before text r₁ r₂ after₁ after₂ text₁ text₂ h k =
+one_reply s Question.Load before text r₁ r₂ after₁ after₂ text₁ text₂ h k =
     let w = left_once Reply.Loaded r₁ r₂ _ _ after₁ after₂ h.0 k.0 (h.1.0 ∙ sym k.1.0) in (w.0, w.1, h.1.1 ∙ sym k.1.1)
-one_reply s (Question.Parse m) before text r₁ r₂ after₁ after₂ text₁ text₂ h k =
+one_reply s Question.Parse before text r₁ r₂ after₁ after₂ text₁ text₂ h k =
     let w = left_once Reply.Parsed r₁ r₂ _ _ (without_core after₁) (without_core after₂) h.0 k.0 (h.1.0 ∙ sym k.1.0) in
     let c = h.1.1 ∙ sym k.1.1 in
     (w.0, λ i. tables (w.1 i).surface (c i) (w.1 i).declarations (w.1 i).work, h.1.2 ∙ sym k.1.2)
@@ -48,9 +46,3 @@ one_reply s Question.ReadCore before text r₁ r₂ after₁ after₂ text₁ te
     let w = read_once before after₁ after₂ r₁ r₂ _ _ h.0 k.0 (h.1.0 ∙ sym k.1.0) h.1.1 k.1.1 in (w.0, w.1, h.1.2 ∙ sym k.1.2)
 one_reply s Question.ReadCanonical before text r₁ r₂ after₁ after₂ text₁ text₂ h k =
     let w = read_once before after₁ after₂ r₁ r₂ _ _ h.0 k.0 (h.1.0 ∙ sym k.1.0) h.1.1 k.1.1 in (w.0, w.1, h.1.2 ∙ sym k.1.2)
-
--- Whichever reader is asked, loading and reading promise the same.
-pub either_reader_records : EitherReaderRecords
-either_reader_records s before text r₁ r₂ after₁ after₂ text₁ text₂ =
-    ⊎_elim (λ h. one_reply s (Question.Load Method.Frames) before text r₁ r₂ after₁ after₂ text₁ text₂ h.0 h.1)
-    (λ h. one_reply s (Question.Parse Method.Frames) before text r₁ r₂ after₁ after₂ text₁ text₂ h.0 h.1)

@@ -90,9 +90,9 @@ module _ (s surface core words words₁ work : List ℕ) (list : List Declaratio
     answered : (question : Question) → Answered s question (tables surface core (front n words words) work) text r (tables surface₁ core₁ (front n words words₁) work₁) text₁
         → Answered s question (tables surface core (list_words list) work) text r (tables surface₁ core₁ (list_words (records_of words₁ n)) work₁) text₁
     unfolding load parse ask print
-    answered (Question.Load m) h =
+    answered Question.Load h =
         let z = lent core [] in (carried z (λ d. loading s (with_words z d) start) (loading_settles s z) (outcome s) _ (outcome_makes s) (loaded_of r) surface₁ core₁ work₁ h.0, h.1)
-    answered (Question.Parse m) h =
+    answered Question.Parse h =
         let z = lent [] [] in (carried z (λ d. parsing s (with_words z d) start) (parsing_settles s z) parsed _ parsed_makes (parsed_of r) surface₁ [] work₁ h.0, h.1, h.2)
     answered (Question.Depends i j) h =
         let z = lent core [] in

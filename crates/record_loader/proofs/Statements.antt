@@ -33,13 +33,13 @@ use Rattle.record_loader.proofs.Short.{first_long, text_all}
 use Rattle.record_loader.proofs.Words.{list_long}
 
 pub demand_3_records : Demand3Records
-demand_3_records s t m n before₁ before₂ text₁ text₂ a b after₁ after₂ left₁ left₂ h k = demand_3_in (List Declaration) list_words s t before₁ before₂ a b after₁ after₂ h.1.0 k.1.0
+demand_3_records s t before₁ before₂ text₁ text₂ a b after₁ after₂ left₁ left₂ h k = demand_3_in (List Declaration) list_words s t before₁ before₂ a b after₁ after₂ h.1.0 k.1.0
 
 pub row_offsets_records : RowOffsetsRecords
-row_offsets_records s m before text a after left h = row_offsets s (worded before) a (worded after) h.1.0
+row_offsets_records s before text a after left h = row_offsets s (worded before) a (worded after) h.1.0
 
 pub round_trip_records : RoundTripRecords
-round_trip_records s m before₁ text₁ a after₁ left₁ l h before₂ buffer n after₂ text e lent other b left other₁ room r =
+round_trip_records s before₁ text₁ a after₁ left₁ l h before₂ buffer n after₂ text e lent other b left other₁ room r =
     let t = for_text (worded lent) in
     let u = for_text (worded left) in
     let reads : ReadsCore (take n text) t b u ⊎ ReadsCanonical (take n text) t b u = ⊎_elim (λ x. inl x.1.0) (λ x. inr x.1.0) r in
@@ -77,10 +77,10 @@ unfolding read_canonical
 canonical_reports t before a after h = ap (λ (o : Outcome). report o.answer) h ∙ text_reports (lengths before) (reading_canonical t (lengths before) start)
 
 pub reply_reports : ReplyReports
-reply_reports s (Question.Load m) before text r after text₁ h =
-    subst (λ (x : Reply). ReplyingReports s (Question.Load m) before text (report_reply x)) (sym h.0) (load_reports s before (loaded_of r) after h.1.0)
-reply_reports s (Question.Parse m) before text r after text₁ h =
-    subst (λ (x : Reply). ReplyingReports s (Question.Parse m) before text (report_reply x)) (sym h.0) (parse_reports s (without_core before) (parsed_of r) (without_core after) h.1.0)
+reply_reports s Question.Load before text r after text₁ h =
+    subst (λ (x : Reply). ReplyingReports s Question.Load before text (report_reply x)) (sym h.0) (load_reports s before (loaded_of r) after h.1.0)
+reply_reports s Question.Parse before text r after text₁ h =
+    subst (λ (x : Reply). ReplyingReports s Question.Parse before text (report_reply x)) (sym h.0) (parse_reports s (without_core before) (parsed_of r) (without_core after) h.1.0)
 reply_reports s (Question.Depends i j) before text r after text₁ h =
     subst (λ (x : Reply). ReplyingReports s (Question.Depends i j) before text (report_reply x)) (sym h.0) (ask_reports s i j before (dependence_of r) after h.1.0)
 reply_reports s (Question.Binder k) before text r after text₁ h =

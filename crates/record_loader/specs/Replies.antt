@@ -69,8 +69,8 @@ read_of (Reply.Read r) = r
 
 -- A reply is of the question's kind.
 abbrev pub Fitting : Question → Reply → Type 0
-Fitting (Question.Load m) r = r ≡ Reply.Loaded (loaded_of r)
-Fitting (Question.Parse m) r = r ≡ Reply.Parsed (parsed_of r)
+Fitting Question.Load r = r ≡ Reply.Loaded (loaded_of r)
+Fitting Question.Parse r = r ≡ Reply.Parsed (parsed_of r)
 Fitting (Question.Depends i j) r = r ≡ Reply.Depends (dependence_of r)
 Fitting (Question.Binder k) r = r ≡ Reply.Bound (bound_of r)
 Fitting Question.Print r = r ≡ Reply.Printed (printed_of r)
@@ -91,11 +91,11 @@ pub record Besides (before after : Tables) : Type 0 where
   pub surface_kept : after.surface ≡ before.surface
   pub rest_blank : after.declarations ≡ pad (length before.declarations) (take 65535 after.declarations)
 
--- What `load` promises, whichever reader is asked; what `parse_surface` does likewise, and the core table is as it was; what `depends`, `binder`, `print`, `read_core` and
+-- What `load` promises; what `parse_surface` does, and the core table is as it was; what `depends`, `binder`, `print`, `read_core` and
 -- `read_canonical` do. Only printing is lent the text buffer: else it is as it was.
 abbrev pub Answered : List ℕ → Question → Tables → List ℕ → Reply → Tables → List ℕ → Type 0
-Answered s (Question.Load m) before text r after text₁ = Loads s before (loaded_of r) after × (text₁ ≡ text)
-Answered s (Question.Parse m) before text r after text₁ =
+Answered s Question.Load before text r after text₁ = Loads s before (loaded_of r) after × (text₁ ≡ text)
+Answered s Question.Parse before text r after text₁ =
     Parses s (without_core before) (parsed_of r) (without_core after) × (after.core ≡ before.core) × (text₁ ≡ text)
 Answered s (Question.Depends i j) before text r after text₁ = Asks s i j before (dependence_of r) after × (text₁ ≡ text)
 Answered s (Question.Binder k) before text r after text₁ = AsksBinder s k before (bound_of r) after × (text₁ ≡ text)

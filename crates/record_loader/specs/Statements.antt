@@ -18,7 +18,6 @@ use Rattle.printing.specs.PrintCall.{print, report_printed}
 use Rattle.core_module.specs.CoreText.{reading_text, reading_canonical, ReadsCore, ReadsCanonical}
 use Rattle.core_module.specs.SameText.{SameText}
 use Rattle.core_module.specs.Statements.{Roomy}
-use Rattle.reader.specs.declared.Method.{Method}
 use Rattle.records.specs.declared.Declaration.{Declaration}
 use Rattle.record_loader.specs.declared.Question.{Question}
 use Rattle.record_loader.specs.declared.Reply.{Reply}
@@ -32,27 +31,27 @@ Lent = Each (List ℕ) (List Declaration)
 abbrev pub worded : Lent → Tables
 worded = in_words list_words
 
--- DEMAND 3 about loads whose declaration list is a slice of records: of any two calls that accept their sources, by either reader, what they
--- leave is the same core exactly if the two sources agree.
+-- DEMAND 3 about loads whose declaration list is a slice of records: of any two calls that accept their sources, what they leave is the same
+-- core exactly if the two sources agree.
 abbrev pub Demand3Records : Type 0
 Demand3Records =
-    (s t : List ℕ) (m n : Method) (before₁ before₂ : Lent) (text₁ text₂ : List ℕ) (a b : Answer) (after₁ after₂ : Lent) (left₁ left₂ : List ℕ)
-    → Replies s (Question.Load m) (worded before₁) text₁ (Reply.Loaded a) (worded after₁) left₁ → Replies t (Question.Load n) (worded before₂) text₂ (Reply.Loaded b) (worded after₂) left₂
+    (s t : List ℕ) (before₁ before₂ : Lent) (text₁ text₂ : List ℕ) (a b : Answer) (after₁ after₂ : Lent) (left₁ left₂ : List ℕ)
+    → Replies s Question.Load (worded before₁) text₁ (Reply.Loaded a) (worded after₁) left₁ → Replies t Question.Load (worded before₂) text₂ (Reply.Loaded b) (worded after₂) left₂
     → Accepts (leaves a (worded after₁)) → Accepts (leaves b (worded after₂))
     → SameCore s (leaves a (worded after₁)) t (leaves b (worded after₂)) ↔ Agreement s t
 
 -- DOCUMENT 02, REQ 01, about such a load that accepts its source.
 abbrev pub RowOffsetsRecords : Type 0
 RowOffsetsRecords =
-    (s : List ℕ) (m : Method) (before : Lent) (text : List ℕ) (a : Answer) (after : Lent) (left : List ℕ) → Replies s (Question.Load m) (worded before) text (Reply.Loaded a) (worded after) left
+    (s : List ℕ) (before : Lent) (text : List ℕ) (a : Answer) (after : Lent) (left : List ℕ) → Replies s Question.Load (worded before) text (Reply.Loaded a) (worded after) left
     → Accepts (leaves a (worded after)) → RowsBegin s (leaves a (worded after))
 
 -- DOCUMENT 02, REQ 03, THE ROUND TRIP, about such calls: of every load that accepts the source, every print of it, and every reading of the
 -- printed text with room for what the load counts. No source has more than 13,107 declarations, so that what is lent of a longer list is enough.
 abbrev pub RoundTripRecords : Type 0
 RoundTripRecords =
-    (s : List ℕ) (m : Method) (before₁ : Lent) (text₁ : List ℕ) (a : Answer) (after₁ : Lent) (left₁ : List ℕ)
-    → Replies s (Question.Load m) (worded before₁) text₁ (Reply.Loaded a) (worded after₁) left₁ → Accepts (leaves a (worded after₁))
+    (s : List ℕ) (before₁ : Lent) (text₁ : List ℕ) (a : Answer) (after₁ : Lent) (left₁ : List ℕ)
+    → Replies s Question.Load (worded before₁) text₁ (Reply.Loaded a) (worded after₁) left₁ → Accepts (leaves a (worded after₁))
     → (before₂ : Lent) (buffer : List ℕ) (n : ℕ) (after₂ : Lent) (text : List ℕ)
     → Replies s Question.Print (worded before₂) buffer (Reply.Printed (Printed.Text n)) (worded after₂) text
     → (lent : Lent) (other : List ℕ) (b : Answer) (left : Lent) (other₁ : List ℕ) → Roomy (row_count a) (declaration_count a) (for_text (worded lent))
@@ -77,15 +76,6 @@ OneReply =
     (s : List ℕ) (question : Question) (before : Tables) (text : List ℕ) (r₁ r₂ : Reply) (after₁ after₂ : Tables) (text₁ text₂ : List ℕ)
     → Replies s question before text r₁ after₁ text₁ → Replies s question before text r₂ after₂ text₂ → (r₁ ≡ r₂) × (after₁ ≡ after₂) × (text₁ ≡ text₂)
 
--- DOCUMENT 02, REQ 11, about such calls: the plain reader and the frame reader give the same reply and leave the same, for loading and for
--- reading alone.
-abbrev pub EitherReaderRecords : Type 0
-EitherReaderRecords =
-    (s : List ℕ) (before : Tables) (text : List ℕ) (r₁ r₂ : Reply) (after₁ after₂ : Tables) (text₁ text₂ : List ℕ)
-    → (Replies s (Question.Load Method.Frames) before text r₁ after₁ text₁ × Replies s (Question.Load Method.Plain) before text r₂ after₂ text₂)
-    ⊎ (Replies s (Question.Parse Method.Frames) before text r₁ after₁ text₁ × Replies s (Question.Parse Method.Plain) before text r₂ after₂ text₂)
-    → (r₁ ≡ r₂) × (after₁ ≡ after₂) × (text₁ ≡ text₂)
-
 -- The number and values of a reply are those of the answer that it holds.
 abbrev pub report_reply : Reply → Report
 report_reply (Reply.Loaded a) = report a
@@ -97,8 +87,8 @@ report_reply (Reply.Read a) = report a
 
 -- "The promises use that definition": what is promised of them for each question.
 abbrev pub ReplyingReports : List ℕ → Question → Tables → List ℕ → Report → Type 0
-ReplyingReports s (Question.Load m) before text n = n ≡ loading_reports (loading s (lengths before) start)
-ReplyingReports s (Question.Parse m) before text n = n ≡ loading_reports (parsing s (lengths (without_core before)) start)
+ReplyingReports s Question.Load before text n = n ≡ loading_reports (loading s (lengths before) start)
+ReplyingReports s Question.Parse before text n = n ≡ loading_reports (parsing s (lengths (without_core before)) start)
 ReplyingReports s (Question.Depends i j) before text n = n ≡ asking_reports s i j (asking s (lengths before) i j start)
 ReplyingReports s (Question.Binder k) before text n = BindingReports s k (loading s (lengths before) start) n
 ReplyingReports s Question.Print before text n = n ≡ report_printed (print s (lengths before) (length text)).answer

@@ -10,14 +10,14 @@ ghost use Rattle.record_loader.specs.Replies.{Replies};
 use binding::Binding;
 use dependence::Dependence;
 use printing::Printed;
-use reader::{Method, ModuleRead};
+use reader::ModuleRead;
 use records::Declaration;
 use surface::Answer;
 
 #[derive(Clone, Copy)]
 pub enum Question {
-    Load(Method),
-    Parse(Method),
+    Load,
+    Parse,
     Depends(usize, usize),
     Print,
     ReadCore,
@@ -52,12 +52,12 @@ fn ask_words(
 {
     let limit = records::word_limit(count, words.len());
     match question {
-        Question::Load(method) => {
-            let a = loader::load_by(s, surface, core, &mut words[..limit], work, method);
+        Question::Load => {
+            let a = loader::load(s, surface, core, &mut words[..limit], work);
             Reply::Loaded(a)
         }
-        Question::Parse(method) => {
-            let m = loader::parse_surface_by(s, surface, &mut words[..limit], work, method);
+        Question::Parse => {
+            let m = loader::parse_surface(s, surface, &mut words[..limit], work);
             Reply::Parsed(m)
         }
         Question::Depends(i, j) => {

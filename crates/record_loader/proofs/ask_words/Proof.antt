@@ -19,40 +19,40 @@ use Rattle.record_loader.proofs.ask_words.Tie as tie
 word-limit-requires : tie.Need-word-limit-requires
 word-limit-requires c κs = search rules
 
-enum-known-question : tie.Need-enum-known-question
-enum-known-question c = search rules
+enum_told : tie.Need-enum-told
+enum_told c = search rules
 
-slice-relend-prefix-load-by : tie.Need-slice-relend-prefix-load-by
-slice-relend-prefix-load-by c =
-    let a = c.before.before.before.before.before.before.before.before.before.before.before.before.args in
-    within a.count _ a.words.now c.before.before.before.before.before.word_limit.ensures
-
-slice-aggregate-load-by : tie.Need-slice-aggregate-load-by
-slice-aggregate-load-by c =
-    let a = c.before.before.before.before.before.before.before.before.before.before.before.before.before.args in
-    taken a.count _ a.words.now c.before.before.before.before.before.before.word_limit.ensures
-
-load-by-requires : tie.Need-load-by-requires
-load-by-requires c κs = search rules
-
-enum-known-question-2 : tie.Need-enum-known-question-2
-enum-known-question-2 c = search rules
-
-slice-relend-prefix-parse-surface-by : tie.Need-slice-relend-prefix-parse-surface-by
-slice-relend-prefix-parse-surface-by c =
+slice-relend-prefix-load : tie.Need-slice-relend-prefix-load
+slice-relend-prefix-load c =
     let a = c.before.before.before.before.before.before.before.before.before.before.before.args in
     within a.count _ a.words.now c.before.before.before.before.word_limit.ensures
 
-slice-aggregate-parse-surface-by : tie.Need-slice-aggregate-parse-surface-by
-slice-aggregate-parse-surface-by c =
+slice-aggregate-load : tie.Need-slice-aggregate-load
+slice-aggregate-load c =
     let a = c.before.before.before.before.before.before.before.before.before.before.before.before.args in
     taken a.count _ a.words.now c.before.before.before.before.before.word_limit.ensures
 
-parse-surface-by-requires : tie.Need-parse-surface-by-requires
-parse-surface-by-requires c κs = search rules
+load-requires : tie.Need-load-requires
+load-requires c κs = search rules
 
-enum-known-question-3 : tie.Need-enum-known-question-3
-enum-known-question-3 c = search rules
+enum-told-2 : tie.Need-enum-told-2
+enum-told-2 c = search rules
+
+slice-relend-prefix-parse-surface : tie.Need-slice-relend-prefix-parse-surface
+slice-relend-prefix-parse-surface c =
+    let a = c.before.before.before.before.before.before.before.before.before.before.args in
+    within a.count _ a.words.now c.before.before.before.word_limit.ensures
+
+slice-aggregate-parse-surface : tie.Need-slice-aggregate-parse-surface
+slice-aggregate-parse-surface c =
+    let a = c.before.before.before.before.before.before.before.before.before.before.before.args in
+    taken a.count _ a.words.now c.before.before.before.before.word_limit.ensures
+
+parse-surface-requires : tie.Need-parse-surface-requires
+parse-surface-requires c κs = search rules
+
+enum-known-question : tie.Need-enum-known-question
+enum-known-question c = search rules
 
 slice-relend-prefix-depends : tie.Need-slice-relend-prefix-depends
 slice-relend-prefix-depends c =
@@ -67,8 +67,8 @@ slice-aggregate-depends c =
 depends-requires : tie.Need-depends-requires
 depends-requires c κs = search rules
 
-enum_told : tie.Need-enum-told
-enum_told c = search rules
+enum-told-3 : tie.Need-enum-told-3
+enum-told-3 c = search rules
 
 slice-relend-prefix-print : tie.Need-slice-relend-prefix-print
 slice-relend-prefix-print c =
@@ -83,8 +83,8 @@ slice-aggregate-print c =
 print-requires : tie.Need-print-requires
 print-requires c κs = search rules
 
-enum-told-2 : tie.Need-enum-told-2
-enum-told-2 c = search rules
+enum-told-4 : tie.Need-enum-told-4
+enum-told-4 c = search rules
 
 slice-relend-prefix-read-core : tie.Need-slice-relend-prefix-read-core
 slice-relend-prefix-read-core c =
@@ -99,8 +99,8 @@ slice-aggregate-read-core c =
 read-core-requires : tie.Need-read-core-requires
 read-core-requires c κs = search rules
 
-enum-told-3 : tie.Need-enum-told-3
-enum-told-3 c = search rules
+enum-told-5 : tie.Need-enum-told-5
+enum-told-5 c = search rules
 
 slice-relend-prefix-read-canonical : tie.Need-slice-relend-prefix-read-canonical
 slice-relend-prefix-read-canonical c =
@@ -115,8 +115,8 @@ slice-aggregate-read-canonical c =
 read-canonical-requires : tie.Need-read-canonical-requires
 read-canonical-requires c κs = search rules
 
-enum-known-question-4 : tie.Need-enum-known-question-4
-enum-known-question-4 c = search rules
+enum-known-question-2 : tie.Need-enum-known-question-2
+enum-known-question-2 c = search rules
 
 slice-relend-prefix-binder : tie.Need-slice-relend-prefix-binder
 slice-relend-prefix-binder c =
@@ -145,14 +145,14 @@ same-length-4 c = search rules
 
 returns : tie.Need-returns
 returns c short =
-    let a = c.before.before.before.before.before.before.before.before.before.before.before.before.before.before.before.before.before.before.before.before.before.before.before.args in
-    let k = c.before.before.before.before.before.before.before.before.load-by in
-    let w = c.before.before.before.before.before.before.before.before.before.before.before.before.before.before.before.before.word_limit in
-    let told = c.before.before.before.before.before.before.before.before.before.before.before.before.before.before.question.given in
+    let a = c.before.before.before.before.before.before.before.before.before.before.before.before.before.before.before.before.before.before.before.before.before.before.args in
+    let k = c.before.before.before.before.before.before.before.before.load in
+    let w = c.before.before.before.before.before.before.before.before.before.before.before.before.before.before.before.word_limit in
+    let told = c.before.before.before.before.before.before.before.before.before.before.before.before.before.enum_told.given in
     let after : List ℕ → Tables = λ y. tables k.new.1.0 k.new.1.1.0 y k.new.1.1.1.1.0 in
     subst (λ (q : Question). Replies a.s.now q (tables a.surface.now a.core.now (front a.count a.words.now a.words.now) a.work.now) a.text.now (Reply.Loaded k.result) (after (front a.count a.words.now (k.new.1.1.1.0 ++ drop w.result a.words.now))) a.text.now) (sym told.1)
     (left a.count w.result a.words.now w.ensures k.new.1.1.1.0 k.auto.1.1.1.0
-    (λ x y. Replies a.s.now (Question.Load told.0.0) (tables a.surface.now a.core.now x a.work.now) a.text.now (Reply.Loaded k.result) (after y) a.text.now)
+    (λ x y. Replies a.s.now Question.Load (tables a.surface.now a.core.now x a.work.now) a.text.now (Reply.Loaded k.result) (after y) a.text.now)
     (refl, (k.ensures, refl)))
 
 same-length-5 : tie.Need-same-length-5
@@ -166,14 +166,14 @@ same-length-7 c = search rules
 
 returns-2 : tie.Need-returns-2
 returns-2 c short =
-    let a = c.before.before.before.before.before.before.before.before.before.before.before.before.before.before.before.before.before.before.before.before.args in
-    let k = c.before.before.before.before.before.before.parse-surface-by in
-    let w = c.before.before.before.before.before.before.before.before.before.before.before.before.before.word_limit in
-    let told = c.before.before.before.before.before.before.before.before.before.before.before.question2.given in
+    let a = c.before.before.before.before.before.before.before.before.before.before.before.before.before.before.before.before.before.before.before.args in
+    let k = c.before.before.before.before.before.before.parse-surface in
+    let w = c.before.before.before.before.before.before.before.before.before.before.before.before.word_limit in
+    let told = c.before.before.before.before.before.before.before.before.before.before.enum-told2.given in
     let after : List ℕ → Tables = λ y. tables k.new.1.0 a.core.now y k.new.1.1.1.0 in
     subst (λ (q : Question). Replies a.s.now q (tables a.surface.now a.core.now (front a.count a.words.now a.words.now) a.work.now) a.text.now (Reply.Parsed k.result) (after (front a.count a.words.now (k.new.1.1.0 ++ drop w.result a.words.now))) a.text.now) (sym told.1)
     (left a.count w.result a.words.now w.ensures k.new.1.1.0 k.auto.1.1.0
-    (λ x y. Replies a.s.now (Question.Parse told.0.0) (tables a.surface.now a.core.now x a.work.now) a.text.now (Reply.Parsed k.result) (after y) a.text.now)
+    (λ x y. Replies a.s.now Question.Parse (tables a.surface.now a.core.now x a.work.now) a.text.now (Reply.Parsed k.result) (after y) a.text.now)
     (refl, (k.ensures, refl, refl)))
 
 same-length-8 : tie.Need-same-length-8
@@ -193,7 +193,7 @@ returns-3 c short =
     let a = c.before.before.before.before.before.before.before.before.before.before.before.before.before.before.before.before.before.before.before.before.before.before.before.args in
     let k = c.before.before.before.before.before.before.before.before.depends in
     let w = c.before.before.before.before.before.before.before.before.before.before.before.before.before.before.before.before.word_limit in
-    let told = c.before.before.before.before.before.before.before.before.before.before.before.before.before.before.question3.given in
+    let told = c.before.before.before.before.before.before.before.before.before.before.before.before.before.before.question.given in
     let after : List ℕ → Tables = λ y. tables k.new.1.1.1.0 k.new.1.1.1.1.0 y k.new.1.1.1.1.1.1.0 in
     subst (λ (q : Question). Replies a.s.now q (tables a.surface.now a.core.now (front a.count a.words.now a.words.now) a.work.now) a.text.now (Reply.Depends k.result) (after (front a.count a.words.now (k.new.1.1.1.1.1.0 ++ drop w.result a.words.now))) a.text.now) (sym told.1)
     (left a.count w.result a.words.now w.ensures k.new.1.1.1.1.1.0 k.auto.1.1.1.1.1.0
@@ -220,7 +220,7 @@ returns-4 c short =
     let a = c.before.before.before.before.before.before.before.before.before.before.before.before.before.before.before.before.before.before.before.before.before.before.before.before.before.args in
     let k = c.before.before.before.before.before.before.before.before.before.before.print in
     let w = c.before.before.before.before.before.before.before.before.before.before.before.before.before.before.before.before.before.before.word_limit in
-    let told = c.before.before.before.before.before.before.before.before.before.before.before.before.before.before.before.before.enum_told.given in
+    let told = c.before.before.before.before.before.before.before.before.before.before.before.before.before.before.before.before.enum-told3.given in
     let after : List ℕ → Tables = λ y. tables k.new.1.0 k.new.1.1.0 y k.new.1.1.1.1.0 in
     subst (λ (q : Question). Replies a.s.now q (tables a.surface.now a.core.now (front a.count a.words.now a.words.now) a.work.now) a.text.now (Reply.Printed k.result) (after (front a.count a.words.now (k.new.1.1.1.0 ++ drop w.result a.words.now))) k.new.1.1.1.1.1.0) (sym told.1)
     (left a.count w.result a.words.now w.ensures k.new.1.1.1.0 k.auto.1.1.1.0
@@ -241,7 +241,7 @@ returns-5 c short =
     let a = c.before.before.before.before.before.before.before.before.before.before.before.before.before.before.before.before.before.before.before.args in
     let k = c.before.before.before.before.before.before.read_core in
     let w = c.before.before.before.before.before.before.before.before.before.before.before.before.word_limit in
-    let told = c.before.before.before.before.before.before.before.before.before.before.enum-told2.given in
+    let told = c.before.before.before.before.before.before.before.before.before.before.enum-told4.given in
     let after : List ℕ → Tables = λ y. tables a.surface.now k.new.1.0 y k.new.1.1.1.0 in
     let lent = tables a.surface.now a.core.now (take w.result a.words.now) a.work.now in
     let fits : length lent.declarations ≤ 65535 = omega (arith, short, taken a.count w.result a.words.now w.ensures, within a.count w.result a.words.now w.ensures) in
@@ -264,7 +264,7 @@ returns-6 c short =
     let a = c.before.before.before.before.before.before.before.before.before.before.before.before.before.before.before.before.before.before.before.args in
     let k = c.before.before.before.before.before.before.read_canonical in
     let w = c.before.before.before.before.before.before.before.before.before.before.before.before.word_limit in
-    let told = c.before.before.before.before.before.before.before.before.before.before.enum-told3.given in
+    let told = c.before.before.before.before.before.before.before.before.before.before.enum-told5.given in
     let after : List ℕ → Tables = λ y. tables a.surface.now k.new.1.0 y k.new.1.1.1.0 in
     let lent = tables a.surface.now a.core.now (take w.result a.words.now) a.work.now in
     let fits : length lent.declarations ≤ 65535 = omega (arith, short, taken a.count w.result a.words.now w.ensures, within a.count w.result a.words.now w.ensures) in
@@ -290,7 +290,7 @@ returns-7 c short =
     let a = c.before.before.before.before.before.before.before.before.before.before.before.before.before.before.before.before.before.before.before.before.before.before.before.args in
     let k = c.before.before.before.before.before.before.before.before.binder in
     let w = c.before.before.before.before.before.before.before.before.before.before.before.before.before.before.before.before.word_limit in
-    let told = c.before.before.before.before.before.before.before.before.before.before.before.before.before.before.question4.given in
+    let told = c.before.before.before.before.before.before.before.before.before.before.before.before.before.before.question2.given in
     let after : List ℕ → Tables = λ y. tables k.new.1.1.0 k.new.1.1.1.0 y k.new.1.1.1.1.1.0 in
     subst (λ (q : Question). Replies a.s.now q (tables a.surface.now a.core.now (front a.count a.words.now a.words.now) a.work.now) a.text.now (Reply.Bound k.result) (after (front a.count a.words.now (k.new.1.1.1.1.0 ++ drop w.result a.words.now))) a.text.now) (sym told.1)
     (left a.count w.result a.words.now w.ensures k.new.1.1.1.1.0 k.auto.1.1.1.1.0
@@ -302,31 +302,31 @@ ask-words-spec =
     tie.close
     (tie.spec
     word-limit-requires
+    enum_told
+    slice-relend-prefix-load
+    slice-aggregate-load
+    load-requires
+    enum-told-2
+    slice-relend-prefix-parse-surface
+    slice-aggregate-parse-surface
+    parse-surface-requires
     enum-known-question
-    slice-relend-prefix-load-by
-    slice-aggregate-load-by
-    load-by-requires
-    enum-known-question-2
-    slice-relend-prefix-parse-surface-by
-    slice-aggregate-parse-surface-by
-    parse-surface-by-requires
-    enum-known-question-3
     slice-relend-prefix-depends
     slice-aggregate-depends
     depends-requires
-    enum_told
+    enum-told-3
     slice-relend-prefix-print
     slice-aggregate-print
     print-requires
-    enum-told-2
+    enum-told-4
     slice-relend-prefix-read-core
     slice-aggregate-read-core
     read-core-requires
-    enum-told-3
+    enum-told-5
     slice-relend-prefix-read-canonical
     slice-aggregate-read-canonical
     read-canonical-requires
-    enum-known-question-4
+    enum-known-question-2
     slice-relend-prefix-binder
     slice-aggregate-binder
     binder-requires

@@ -1,0 +1,20 @@
+-- `printer::put_leaf` meets its contract.
+use mathlib.Core.Logic.{⊎_elim}
+use native.Mathlib.Omega.{arith}
+use mathlib.Core.Path.{sym}
+use Rattle.printer.proofs.Ends.{◌then◌, puts_as}
+use Rattle.printer.proofs.Words.{leaf_numeral, leaf_alone}
+use borrow.Author.Rules.{rules}
+use Rattle.printer.proofs.put_leaf.Goals as goal
+
+pub returns-in-1-to-3 : goal.returns-in-1-to-3
+returns-in-1-to-3 c =
+    let a = c.args in
+    λ e. puts_as (sym (leaf_numeral a.s.now a.kind a.a a.b (search rules) (search rules)))
+    (c.put_byte-pos.ensures then c.put_numeral-pos.ensures then c.put_byte-pos-in-1-to-3.ensures then c.put_opening.ensures)
+
+pub returns-in_default : goal.returns-in_default
+returns-in_default c =
+    let a = c.args in
+    λ e. puts_as (sym (leaf_alone a.s.now a.kind a.a a.b e (λ w. ⊎_elim (λ x. omega (arith, w.0)) (λ x. omega (arith, w.1, x.1)) c.in_default.branch)))
+    (c.put_word-next.ensures then c.put_byte.ensures)
