@@ -8,7 +8,7 @@ use Rattle.terms.specs.Tree.{Forest, nil, node, relabel}
 use Rattle.terms.specs.Label.{Name, Label, Declaration, trees, Terms, declared_name, named_declaration}
 use Rattle.terms.specs.Resolution.{find, Core, kept, var, global, unknown, Resolved, resolve_declaration, is_unknown, first_unknown, RefusedName, refused_name, first_refused}
 use Rattle.terms.proofs.Names.{none_some}
-use Rattle.terms.proofs.NamedCore.{core, is_known, all_known, known}
+use Rattle.terms.proofs.NamedCore.{is_known, all_known, known}
 use Rattle.terms.proofs.NamedModule.{parts, new, resolves}
 use Rattle.terms.proofs.Spans.{bytes_core, named_core, named_resolve, named_trees}
 
