@@ -14,7 +14,7 @@ use Rattle.terms.specs.Label.{Label, Declaration, trees}
 use Rattle.terms.proofs.Widths.{total, total_grows}
 use Rattle.surface.specs.Text.{text, is_end}
 use Rattle.surface.specs.Grammar.{Tokens, the_end, Opens, Closes, Word, Name, Terms, Declarations, no_declaration, postulate, transparent, opaque}
-use Rattle.surface.specs.Reader.{Position, start, Result, done, Reader}
+use Rattle.surface.specs.Reader.{Position, Result, done, Reader}
 use Rattle.surface.specs.Reading.{name, several, term, closing, declaration_kind, beginning, body, declared, declaration, ending, onwards, declarations}
 use Rattle.surface.proofs.Frames.{frames_of, deepest, within}
 use Rattle.surface.proofs.Steps.{after_elim, done_inj}

@@ -15,7 +15,7 @@ use Rattle.terms.proofs.Widths.{total}
 use Rattle.surface.specs.Text.{text}
 use Rattle.surface.specs.Grammar.{Tokens, the_next, Word, Numeral, Version, version_0_1, version_0_2, Head, head, Derives}
 use Rattle.surface.specs.Reader.{Position, start, done}
-use Rattle.surface.specs.Reading.{name, declarations, edition_of, supported, surface_line, module_line, head as head-reader, read_module}
+use Rattle.surface.specs.Reading.{edition_of, supported, surface_line, module_line, head as head-reader, read_module}
 use Rattle.surface.proofs.Frames.{deepest}
 use Rattle.surface.proofs.Steps.{done_inj}
 use Rattle.surface.proofs.Editions.{version_edition, version_meets, head_meets}

@@ -19,7 +19,7 @@ use Rattle.terms.proofs.Widths.{total}
 use Rattle.surface.specs.Text.{text}
 use Rattle.surface.specs.Grammar.{Tokens, Word, Numeral, Version, version_0_1, version_0_2, Head, head, Derives}
 use Rattle.surface.specs.Reader.{Position, start, done}
-use Rattle.surface.specs.Reading.{opening, closing, word, natural, name, declarations, Head as HeadRead, edition_of, supported, surface_line, module_line, head as head-reader, read_module}
+use Rattle.surface.specs.Reading.{opening, closing, word, natural, name, Head as HeadRead, edition_of, supported, surface_line, module_line, head as head-reader, read_module}
 use Rattle.surface.proofs.Frames.{deepest}
 use Rattle.surface.proofs.Editions.{version_meets}
 use Rattle.surface.proofs.Steps.{Took, no_done, after_elim, done_inj, done_as, open_goes, close_goes, atom_goes, same_rows, opening_done, closing_done, word_done, natural_done, name_done}
