@@ -35,7 +35,7 @@ take_resolves (suc k) g (d ∷ l) h =
 -- One record for each declaration, the first ones for the first declarations.
 pub length_records : (n : ℕ) (g : List Name) (l : List NamedDeclaration) → length (records_of n (cores g l)) ≡ length l
 length_records n g [] = refl
-length_records n g (d ∷ l) = ap suc (length_records _ (g ++ (d.name ∷ [])) l)
+length_records n g (d ∷ l) = ap suc (length_records (next n (core (λ i. []) g (parts d))) (g ++ (d.name ∷ [])) l)
 
 pub records_take : (k n : ℕ) (g : List Name) (l : List NamedDeclaration) → records_of n (cores g (take k l)) ≡ take k (records_of n (cores g l))
 records_take zero n g l = refl

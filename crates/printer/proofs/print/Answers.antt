@@ -10,18 +10,16 @@ pub returns-in-Refused : goal.returns-in-Refused
 returns-in-Refused c =
     let a = c.args in
     let k = c.load-loaded in
-    let m = c.loaded-1.given in
     let f = c.refused_by_loading in
     let z = lengths (tables a.surface.now a.core.now a.declarations.now a.work.now) in
-    print_refused a.s.now z (length a.text.now) k.result k.new.surface k.new.core k.new.declarations k.new.work k.ensures m.0.0 f.result f.new.text m.1
+    print_refused a.s.now z (length a.text.now) k.result k.new.surface k.new.core k.new.declarations k.new.work k.ensures c.in-Refused.refusal f.result f.new.text c.in-Refused.is
     f.ensures.value (f.ensures.text_after ∙ cleared_whole a.text.now)
 
 pub returns-in-Loaded : goal.returns-in-Loaded
 returns-in-Loaded c =
     let a = c.args in
     let k = c.load-loaded in
-    let m = c.loaded-in-Loaded-1.given in
     let f = c.print_loaded in
     let z = lengths (tables a.surface.now a.core.now a.declarations.now a.work.now) in
-    print_done a.s.now z (length a.text.now) k.result k.new.surface k.new.core k.new.declarations k.new.work k.ensures m.0.0 m.0.1.0 a.text.now f.result
-    (tables f.new.surface f.new.core f.new.declarations f.new.work) f.new.text m.1 refl f.ensures
+    print_done a.s.now z (length a.text.now) k.result k.new.surface k.new.core k.new.declarations k.new.work k.ensures c.in-Loaded.rows c.in-Loaded.count a.text.now f.result
+    (tables f.new.surface f.new.core f.new.declarations f.new.work) f.new.text c.in-Loaded.is refl f.ensures
