@@ -1,6 +1,5 @@
 // The lexer: a record that refers to the source and holds a position. The port of `Lexer` in surface/parser.rs.
-// The borrow checker covers no function over such a record, so those here are few and thin, and proved by hand: they take it
-// apart and call `step`, which is covered, as is every caller of `lex`.
+// The functions over such a record are few and thin: they take it apart and call `step`, which has plain parameters, as has `lex`.
 #![tactic(auto)]
 
 ghost use Rattle.std.specs.Prelude.{◌≡◌};

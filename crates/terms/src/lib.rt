@@ -1,8 +1,7 @@
 // Terms with names, what their references mean, and their rows: definitions and theorems, and the record that is kept of a term.
-
-// A term's kind, the start and length of its name, numeral or binder, and its first byte's offset.
 #![tactic(auto)]
 
+// A term's kind, the start and length of its name, numeral or binder, and its first byte's offset.
 #[derive(Clone, Copy)]
 pub struct Label {
     pub kind: u32,
