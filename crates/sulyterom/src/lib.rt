@@ -1,4 +1,4 @@
-// The library for programs to link: `rt staticlib sulyterom`, with include/sulyterom.h for C. Slices pass as a pointer and a length. Each
+// The library for programs to link: `./sulyterom build` makes it, with include/sulyterom.h for C. Slices pass as a pointer and a length. Each
 // function answers 0, or the class of a refusal, and sets in `answer`, if it has room for them, how many values follow, and these.
 #![tactic(auto)]
 
