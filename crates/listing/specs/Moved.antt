@@ -18,10 +18,10 @@ Read end (Input.Bytes n) = n ≤ end
 Read end (Input.Failed error) = Unit {0}
 
 -- Of an input whose bytes are known, before and after a step into the buffer from an offset on: it gave the bytes that the step moved,
--- in their order, and a step that moved nothing met its end.
+-- in their order, and a step that moved nothing met its end where there was room.
 abbrev pub Gives : Option (List ℕ) → Option (List ℕ) → ℕ → List ℕ → Transfer → Type 0
 Gives before after from buf (Transfer.To n) = Consumes before after (take (n - from) (drop from buf)) × (from ≤ n)
-Gives before after from buf Transfer.Nothing = Keeps before after × IsAtEnd after
+Gives before after from buf Transfer.Nothing = Keeps before after × (from < length buf → IsAtEnd after)
 Gives before after from buf Transfer.Interrupted = Keeps before after
 Gives before after from buf (Transfer.Failed error) = Keeps before after
 

@@ -24,7 +24,7 @@ pub enum Input {
 }
 
 fn read_from<R: Read>(input: &mut R, buf: &mut [u8], from: usize) -> Transfer
-    requires { from < length buf.old }
+    requires { from ≤ length buf.old }
     ensures within { Within (length buf.new) result }
     ensures kept { take from buf.new ≡ take from buf.old }
     ensures bytes { Gives (R.remaining input.old) (R.remaining input.new) from buf.new result }
