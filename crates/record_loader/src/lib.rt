@@ -1,5 +1,5 @@
-// Every question to a source or a core text with the declaration list lent as a slice of records: one entry point, proved by hand, over a
-// covered function that goes by the question. Each further question is a case more in it, and in specs/Replies.antt.
+// Every question to a source or a core text with the declaration list lent as a slice of records: one entry point, over a
+// function with plain parameters that goes by the question. Each further question is a case more in it, and in specs/Replies.antt.
 #![tactic(auto)]
 
 ghost use Rattle.std.specs.Prelude.{◌≤◌, length};
