@@ -14,5 +14,5 @@ pub returns : goal.returns
 returns c =
     let a = c.args in
     λ i j e.
-    some_body a.format a.limits.rows a.s.now a.table.now a.at a.rows i.stored c.read_term.result c.read_term.new.table j (λ z. c.if-kind-eq1.false (omega arith))
+    some_body a.format a.limits.rows a.s.now a.table.now a.at a.rows i.stored c.read_term.result c.read_term.new.table j (λ z. omega arith)
     (c.read_term.ensures i.area (term_inside a.limits.rows a.s.now a.work.now a.at a.rows i))
