@@ -70,7 +70,7 @@ fn specs(text: &str) -> File {
 
 /// A file of src/ that has the function, and the words of its `ensures { .. }` and `ensures NAME { .. }`.
 fn code(text: &str, function: &str) -> Option<(File, BTreeSet<String>)> {
-    let begin = text.find(&format!("fn {function}("))?;
+    let begin = ["(", "<"].iter().find_map(|behind| text.find(&format!("fn {function}{behind}")))?;
     let clauses = text[begin..].split("\n{").next()?.split("ensures ").skip(1);
     let contract = clauses.filter_map(|clause| Some(clause.split_once('{')?.1));
     let mut file = File::default();

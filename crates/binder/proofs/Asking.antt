@@ -1,4 +1,6 @@
 -- What the question answers and leaves, from what loading leaves.
+use Rattle.token.specs.declared.Class.{Class}
+use Rattle.std.specs.Prelude.{Err}
 use mathlib.Core.Path.{◌≡◌, refl, sym, ap, ap₂, ◌∙◌, subst}
 use mathlib.Core.Bool.{true, false, ◌&&◌, and-eq-true_iff, false≢true}
 use mathlib.Core.List.{List, []}
@@ -8,30 +10,33 @@ use lib.Dec.{ltb, eqb}
 use borrow.Author.Tests.{ltb-true, eqb-true, lt-ltb, eq-eqb}
 use lib.ListN.{length, get_or, take, replicate}
 use lib.Seq.{take_at}
+use Rattle.std.specs.Prelude.{Ok, Err}
 use Rattle.token.specs.declared.Refusal.{Refusal}
 use Rattle.terms.specs.Forms.{ref}
 use Rattle.terms.specs.Label as Label
 use Rattle.terms.specs.Label.{Name, Declaration}
 use Rattle.terms.specs.Resolution.{find, resolve_module}
 use Rattle.terms.specs.Rows.{pad, joined, surface_rows, core_rows, declaration_records}
-use Rattle.terms.specs.Lookup.{Local, lookup, Referent, local, global, unknown, refers}
+use Rattle.terms.specs.Lookup.{lookup, Referent, local, global, unknown, refers}
 use Rattle.terms.proofs.Entries.{entry_below}
 use Rattle.terms.proofs.Tables.{length_pad, Wide, length_joined}
 use Rattle.terms.proofs.Widths.{wide_surface, wide_records, count_records, total_surface}
 use Rattle.tables.specs.Tables.{cleared}
-use Rattle.surface.specs.declared.Answer.{Answer}
+use Rattle.surface.specs.Answer.{Answer, loaded}
 use Rattle.surface.specs.Reader.{Position, start, Result, done, refused, nowhere}
 use Rattle.surface.specs.Tables.{Lengths, Tables, tables}
+use Rattle.surface.specs.SameCore.{row_count, declaration_count}
 use Rattle.surface.specs.Loading.{loading, Outcome, outcome, load}
 use Rattle.surface.proofs.Acceptance.{IsRead, is_read, is_loaded}
-use Rattle.binding.specs.declared.Binding.{Binding}
+use Rattle.binding.specs.declared.Binder.{Binder}
+use Rattle.binding.specs.Answer.{Binding}
 use Rattle.binding.specs.Binds.{Standing, IsRef, name_of, Answers, left}
 use Rattle.binding.proofs.EveryRow.{every_row}
 use Rattle.binding.proofs.ByScope.{locals_there, globals_there, Meant, meant, not_ref, ref_row, unknown_never}
 use Rattle.scope.specs.Scope.{declared_names}
 use Rattle.elaborate.specs.RowTerm.{row_word}
 use Rattle.elaborate.specs.Loadable.{Loadable}
-use Rattle.elaborate.proofs.ModuleRows.{loaded, loaded_fitting}
+use Rattle.elaborate.proofs.ModuleRows.{loaded as module_loaded, loaded_fitting}
 use Rattle.elaborate.proofs.ResolvedTrees.{records_kept}
 use Rattle.loader.specs.Leaving.{leaving}
 use Rattle.loader.proofs.Cleared.{pad_is, cleared_whole, cleared_pad}
@@ -77,7 +82,7 @@ module _ (s : List ℕ) (z : Lengths) (ds : List Declaration) (q : Position) (e 
 
   module _ (k : ℕ) where
     stands : k < q.rows → There s surface declarations q.rows k ds
-    stands h = there s surface declarations q.rows k ds (loaded loadable) (omega (arith, read.rows))
+    stands h = there s surface declarations q.rows k ds (module_loaded loadable) (omega (arith, read.rows))
 
     -- The declaration that has the row is one of them.
     pub place_fits : k < q.rows → declaration_with declarations (length ds) k < length ds
@@ -110,7 +115,7 @@ module _ (s : List ℕ) (z : Lengths) (ds : List Declaration) (q : Position) (e 
         go w r unknown m = absurd (unknown_never s ds k (is_loaded s z ds q e).names m)
 
     -- 12: no term with this row is a reference.
-    pub answers_other : ltb k q.rows && eqb (get_or surface (k * 8) 0) 24 ≡ false → Answers s k (done ds q) (Binding.Refused (nowhere 12))
+    pub answers_other : ltb k q.rows && eqb (get_or surface (k * 8) 0) 24 ≡ false → Answers s k (done ds q) (Err (nowhere Class.NoDeclaration))
     answers_other f = (refl, λ w r. go w r ((every_row s z ds q e k).1 w))
       where
         go : (w : Standing s ds k) → IsRef w → k < q.rows → ⊥
@@ -128,18 +133,18 @@ module _ (s : List ℕ) (z : Lengths) (k : ℕ) (r : Answer) (surface core decla
   Promised a t = Answers s k (loading s z start) a × (t ≡ left s z a)
 
   -- Loading refuses.
-  pub ask_refused : (x : Refusal) → r ≡ Answer.Refused x → Promised (Binding.Refused x) (tables surface core declarations work)
+  pub ask_refused : (x : Refusal) → r ≡ Err x → Promised (Err x) (tables surface core declarations work)
   unfolding load
   ask_refused x e = by (loading s z start) refl l
     where
-      by : (o : Result (List Declaration)) → loading s z start ≡ o → leaving r surface core declarations work ≡ outcome s z o → Promised (Binding.Refused x) (tables surface core declarations work)
+      by : (o : Result (List Declaration)) → loading s z start ≡ o → leaving r surface core declarations work ≡ outcome s z o → Promised (Err x) (tables surface core declarations work)
       by (refused y) f h =
-          let a : r ≡ Answer.Refused y = ap (λ (o : Outcome). o.answer) h in
+          let a : r ≡ Err y = ap (λ (o : Outcome). o.answer) h in
           let g : x ≡ y = cc in
-          (subst (λ (o : Result (List Declaration)). Answers s k o (Binding.Refused x)) (sym f) (ap Binding.Refused g), ap (λ (o : Outcome). o.tables) h)
-      by (done ds q) f h = absurd (let a : r ≡ Answer.Loaded q.rows (length ds) = ap (λ (o : Outcome). o.answer) h in let n : ◌≡◌ {A = ℕ} 0 1 = cc in omega arith)
+          (subst (λ (o : Result (List Declaration)). Answers s k o (Err x)) (sym f) (ap Err g), ap (λ (o : Outcome). o.tables) h)
+      by (done ds q) f h = absurd (let a : r ≡ loaded q.rows (length ds) = ap (λ (o : Outcome). o.answer) h in let n : ◌≡◌ {A = ℕ} 0 1 = cc in omega arith)
 
-  module _ (rows count : ℕ) (e : r ≡ Answer.Loaded rows count) where
+  module _ (rows count : ℕ) (e : r ≡ loaded rows count) where
     -- A source that is loaded: what was read, and the tables.
     record Left : Type 0 where
       ds : List Declaration
@@ -154,10 +159,10 @@ module _ (s : List ℕ) (z : Lengths) (k : ℕ) (r : Answer) (surface core decla
     left_so = by (loading s z start) refl l
       where
         by : (o : Result (List Declaration)) → loading s z start ≡ o → leaving r surface core declarations work ≡ outcome s z o → Left
-        by (refused y) f h = absurd (let a : r ≡ Answer.Refused y = ap (λ (o : Outcome). o.answer) h in let n : ◌≡◌ {A = ℕ} 0 1 = cc in omega arith)
+        by (refused y) f h = absurd (let a : r ≡ Err y = ap (λ (o : Outcome). o.answer) h in let n : ◌≡◌ {A = ℕ} 0 1 = cc in omega arith)
         by (done ds q) f h =
-            let a : r ≡ Answer.Loaded q.rows (length ds) = ap (λ (o : Outcome). o.answer) h in
-            record { ds = ds; q = q; loads = f; rows_are = cc; count_is = cc; same = ap (λ (o : Outcome). o.tables) h }
+            let a : r ≡ loaded q.rows (length ds) = ap (λ (o : Outcome). o.answer) h in
+            record { ds = ds; q = q; loads = f; rows_are = ap row_count (sym e ∙ a); count_is = ap declaration_count (sym e ∙ a); same = ap (λ (o : Outcome). o.tables) h }
 
     -- The row is a reference.
     module _ (f : ltb k rows && eqb (get_or surface (k * 8) 0) 24 ≡ true) where
@@ -213,17 +218,17 @@ module _ (s : List ℕ) (z : Lengths) (k : ℕ) (r : Answer) (surface core decla
           -- An answer is no refusal: a reference is known.
           leaves : (ds : List Declaration) (q : Position) → loading s z start ≡ done ds q → (w : Standing s ds k) × IsRef w → (a : Binding) → Answers s k (done ds q) a
               → (outcome s z (done ds q)).tables ≡ left s z a
-          leaves ds q h w (Binding.Local c n) y = ap (λ (o : Result (List Declaration)). (outcome s z o).tables) (sym h)
-          leaves ds q h w (Binding.Global j) y = ap (λ (o : Result (List Declaration)). (outcome s z o).tables) (sym h)
-          leaves ds q h w (Binding.Refused j) y = absurd (y.1 w.0 w.1)
+          leaves ds q h w (Ok (Binder.Local c n)) y = ap (λ (o : Result (List Declaration)). (outcome s z o).tables) (sym h)
+          leaves ds q h w (Ok (Binder.Global j)) y = ap (λ (o : Result (List Declaration)). (outcome s z o).tables) (sym h)
+          leaves ds q h w (Err j) y = absurd (y.1 w.0 w.1)
 
     -- It is none: "12 is also given, after loading, when the row is no reference", and every table is cleared.
-    pub ask_other : ltb k rows && eqb (get_or surface (k * 8) 0) 24 ≡ false → Promised (Binding.Refused (nowhere 12)) (tables (cleared surface 0) (cleared core 0) (cleared declarations 0) (cleared work 0))
+    pub ask_other : ltb k rows && eqb (get_or surface (k * 8) 0) 24 ≡ false → Promised (Err (nowhere Class.NoDeclaration)) (tables (cleared surface 0) (cleared core 0) (cleared declarations 0) (cleared work 0))
     ask_other f =
         let w = left_so in
         let a = ap (λ (t : Tables). t.surface) w.same in
         let g = subst (λ (n : ℕ). ltb k n && eqb (get_or surface (k * 8) 0) 24 ≡ false) w.rows_are f in (
-          subst (λ (o : Result (List Declaration)). Answers s k o (Binding.Refused (nowhere 12))) (sym w.loads)
+          subst (λ (o : Result (List Declaration)). Answers s k o (Err (nowhere Class.NoDeclaration))) (sym w.loads)
               (answers_other s z w.ds w.q w.loads k (subst (λ (t : List ℕ). ltb k w.q.rows && eqb (get_or t (k * 8) 0) 24 ≡ false) a g)),
           (λ i. tables
               (cleared_pad surface z.surface _ a i)

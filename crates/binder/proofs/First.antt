@@ -25,12 +25,5 @@ module _ (test : ℕ → Bool) (n i : ℕ) where
       let m : n - i ≡ suc (n - (i + 1)) = omega arith in
       ap (λ (x : ℕ). first_from test x i) m ∙ ap (λ (b : Bool). elim b as (λ _. ℕ) [ true ↦ i | false ↦ first_from test (n - (i + 1)) (i + 1) ]) e
 
-  pub taken : test i ≡ true → i < n → first_from test (n - i) i ≡ i
-  taken e h = step true e h
-
   pub passed : test i ≡ false → i < n → first_from test (n - i) i ≡ first_from test (n - (i + 1)) (i + 1)
   passed e h = step false e h
-
-  pub ended : n ≤ i → first_from test (n - i) i ≡ i
-  unfolding first_from
-  ended h = let m : n - i ≡ 0 = omega arith in ap (λ (x : ℕ). first_from test x i) m

@@ -11,11 +11,12 @@ use Rattle.binder.specs.declared.Way.{Way}
 use Rattle.binder.specs.inner.Walk.{child_at, argument_with, entered, walk, WentDown}
 
 module _ (t : List ℕ) (k root : ℕ) where
-  pub record OnWay (work : List ℕ) (way : Way) (left : ℕ) : Type 0 where
-    pub few : way.locals + left ≤ 512
-    pub same : (s : List ℕ) → walk t k s left way.row (in_scope s work way.locals) ≡ walk t k s 512 root []
+  -- After so many of the 512 steps.
+  pub record OnWay (work : List ℕ) (way : Way) (steps : ℕ) : Type 0 where
+    pub few : way.locals ≤ steps
+    pub same : (s : List ℕ) → walk t k s (512 - steps) way.row (in_scope s work way.locals) ≡ walk t k s 512 root []
 
-  pub begins : (work : List ℕ) → OnWay work (record { row = root; locals = 0 }) 512
+  pub begins : (work : List ℕ) → OnWay work (record { row = root; locals = 0 }) 0
   unfolding in_scope
   begins work = record { few = omega arith; same = λ s. refl }
 
@@ -35,15 +36,18 @@ module _ (t : List ℕ) (k root : ℕ) where
   unfolding walk
   ends s left id l e = ap (λ (n : ℕ). walk t k s n id l) e
 
-  module _ (work : List ℕ) (way : Way) (left : ℕ) (o : OnWay work way left) where
+  module _ (work : List ℕ) (way : Way) (steps : ℕ) (o : OnWay work way steps) where
     pub arrived : way.row ≡ k → (s : List ℕ) → in_scope s work way.locals ≡ walk t k s 512 root []
-    arrived e s = sym (arrives s left way.row _ e) ∙ o.same s
+    arrived e s = sym (arrives s (512 - steps) way.row _ e) ∙ o.same s
 
-    pub ended : left ≡ 0 → (s : List ℕ) → in_scope s work way.locals ≡ walk t k s 512 root []
-    ended e s = sym (ends s left way.row _ e) ∙ o.same s
+    pub ended : 512 ≤ steps → (s : List ℕ) → in_scope s work way.locals ≡ walk t k s 512 root []
+    ended h s = sym (ends s (512 - steps) way.row _ (omega arith)) ∙ o.same s
 
-    pub went : ¬ (way.row ≡ k) → 0 < left → (way₁ : Way) (work₁ : List ℕ) → WentDown t k way work way₁ work₁ → OnWay work₁ way₁ (left - 1)
+    pub went : ¬ (way.row ≡ k) → steps < 512 → (way₁ : Way) (work₁ : List ℕ) → WentDown t k way work way₁ work₁ → OnWay work₁ way₁ (steps + 1)
     went e h way₁ work₁ w = record {
       few = omega (arith, o.few, w.few);
-      same = λ s. ap₂ (walk t k s (left - 1)) w.row (w.locals s) ∙ sym (goes s left way.row (in_scope s work way.locals) e h) ∙ o.same s;
+      same = λ s.
+          ap (λ (n : ℕ). walk t k s n way₁.row (in_scope s work₁ way₁.locals)) (let z : 512 - (steps + 1) ≡ 512 - steps - 1 = omega arith in z)
+          ∙ ap₂ (walk t k s (512 - steps - 1)) w.row (w.locals s)
+          ∙ sym (goes s (512 - steps) way.row (in_scope s work way.locals) e (omega arith)) ∙ o.same s;
     }

@@ -1,7 +1,5 @@
 mod First
 mod Spans
-mod Rows
-mod Stepping
 mod Going
 mod Walking
 mod Scopes

@@ -4,17 +4,15 @@
 ghost use Rattle.std.specs.Prelude.{◌≡◌, ◌&&◌, List, [], ℕ, ◌*◌, ◌+◌, ◌<◌, ◌≤◌, ltb, eqb, get_or, length};
 ghost use Rattle.surface.specs.Tables.{tables};
 ghost use Rattle.binding.specs.Binds.{AsksBinder};
-ghost use Rattle.binding.specs.declared.Binding as Binding;
 ghost use Rattle.scope.specs.Scope.{in_scope, referent_of};
 ghost use Rattle.stacks.specs.Stacks.{names_room, WorkArea};
 ghost use Rattle.binder.specs.inner.Walk.{declaration_with, root_with, behind_span, argument_with, walk, refers_at, Placed, WentDown, binding_of};
 
-use binding::Binding;
-use loader::{clear_all, nowhere_12};
+use binding::Binder;
+use loader::clear_all;
 use scope::Referent;
-use surface::Answer;
 use tables::{clear_from, word_at};
-use token::Refusal;
+use token::{Class, Refusal};
 
 // How many words a row and a declaration record have.
 const ROW: usize = 8;
@@ -27,24 +25,23 @@ const REF: u32 = 24;
 const FORMS: usize = 512;
 
 // A row on the way down to another, and how many local binders there are.
-#[derive(Clone, Copy)]
+#[derive(Clone, Copy, Debug, PartialEq, Eq)]
 struct Way {
     row: u32,
     locals: usize,
 }
 
 // The place of the declaration that has row k among its rows.
+#[tactic(auto, unfolding(crate::specs::inner::Walk::first_from))]
 fn declaration_with(declarations: &[u32], count: usize, k: usize) -> usize
     ensures { result ≡ declaration_with declarations.now count k }
 {
-    let mut j: usize = 0;
-    while j < count {
+    for j in 0..count {
         if k < rows::row_behind(declarations, j) {
             return j;
         }
-        j += 1;
     }
-    j
+    count
 }
 
 // The row of its type or of its body, whichever has row k among its rows. Behind the list there is none.
@@ -65,13 +62,11 @@ fn root_with(declarations: &[u32], j: usize, k: usize) -> u32
 fn behind_span(kind: u32) -> usize
     ensures { result ≡ behind_span kind }
 {
-    if rows::holds_span(kind) {
-        return 3;
-    }
-    1
+    if rows::holds_span(kind) { 3 } else { 1 }
 }
 
 // The argument of the row `id` that has row k among its rows: the first whose own row is not before k.
+#[tactic(auto, unfolding(crate::specs::inner::Walk::first_from))]
 fn argument_with(surface: &[u32], id: u32, k: usize) -> usize
     ensures { (result ≡ argument_with surface.now k id) × (result ≤ 7) }
 {
@@ -79,15 +74,12 @@ fn argument_with(surface: &[u32], id: u32, k: usize) -> usize
     let kind = word_at(surface, at);
     let n = rows::arity(kind) as usize;
     let first = at + behind_span(kind);
-    let mut i: usize = 0;
-    while i < n {
-        let child = word_at(surface, first + i) as usize;
-        if k <= child {
+    for i in 0..n {
+        if k <= word_at(surface, first + i) as usize {
             return i;
         }
-        i += 1;
     }
-    i
+    n
 }
 
 // One step down. Where the row's binder covers the argument that is stepped into, it comes into scope.
@@ -105,15 +97,9 @@ fn down(surface: &[u32], work: &mut [u32], way: Way, k: usize) -> Way
         let start = word_at(surface, at + 1);
         let length = word_at(surface, at + 2);
         stacks::push_local(work, l, kind, start, length, id);
-        return Way {
-            row: row,
-            locals: l + 1,
-        };
+        return Way { row, locals: l + 1 };
     }
-    Way {
-        row: row,
-        locals: l,
-    }
+    Way { row, locals: l }
 }
 
 // The way from the row `root` down to row k: how many local binders there are, which the work area holds.
@@ -125,14 +111,11 @@ fn walk(surface: &[u32], work: &mut [u32], root: u32, k: usize) -> usize
         row: root,
         locals: 0,
     };
-    let mut left = FORMS;
-    while 0 < left {
-        let row = way.row;
-        if row as usize == k {
+    for _ in 0..FORMS {
+        if way.row as usize == k {
             return way.locals;
         }
         way = down(surface, work, way, k);
-        left -= 1;
     }
     way.locals
 }
@@ -145,7 +128,7 @@ fn refers_at(
     work: &mut [u32],
     count: usize,
     k: usize,
-) -> Referent
+) -> Option<Referent>
     requires k_in_bounds { (k * 8 + 8 ≤ length surface.now) × WorkArea work.old }
     requires placed { Placed declarations.now (declaration_with declarations.now count k) }
     ensures { referent_of result ≡ refers_at s.now surface.now declarations.now count k }
@@ -163,35 +146,22 @@ fn refers_at(
 fn is_reference(surface: &[u32], rows: usize, k: usize) -> bool
     ensures { result ≡ ltb k rows && eqb (get_or surface.now (k * 8) 0) 24 }
 {
-    if rows <= k {
-        return false;
-    }
-    if surface.len() / ROW < k {
-        return false;
-    }
-    word_at(surface, k * ROW) == REF
+    k < rows && k <= surface.len() / ROW && word_at(surface, k * ROW) == REF
 }
 
-fn binding_of(referent: Referent) -> Binding
+fn binding_of(referent: Option<Referent>) -> Result<Binder, Refusal>
     ensures { result ≡ binding_of (referent_of referent) }
 {
     match referent {
-        Referent::Var { count, row } => Binding::Local {
-            count: count as usize,
-            row: row as usize,
-        },
-        Referent::Global(place) => Binding::Global {
+        Some(Referent::Local(local)) => Ok(Binder::Local {
+            count: local.count as usize,
+            row: local.row as usize,
+        }),
+        Some(Referent::Global(place)) => Ok(Binder::Global {
             place: place as usize,
-        },
-        Referent::Unknown => Binding::Refused(nowhere_12()),
+        }),
+        None => Err(Refusal::nowhere(Class::NoDeclaration)),
     }
-}
-
-// Loading's own refusal comes before 12.
-fn refused_by_loading(refusal: Refusal) -> Binding
-    ensures { result ≡ Binding.Refused refusal }
-{
-    Binding::Refused(refusal)
 }
 
 // What binds the reference at a row. An answer leaves the tables as loading does, a refusal leaves 0 in all of them.
@@ -202,26 +172,19 @@ pub fn binder(
     core: &mut [u32],
     declarations: &mut [u32],
     work: &mut [u32],
-) -> Binding
+) -> Result<Binder, Refusal>
     ensures { AsksBinder s.now row
         (tables surface.old core.old declarations.old work.old)
         result
         (tables surface.new core.new declarations.new work.new) }
 {
-    let loaded = loader::load(s, surface, core, declarations, work);
-    match loaded {
-        Answer::Refused(refusal) => refused_by_loading(refusal),
-        Answer::Loaded {
-            rows,
-            declarations: count,
-        } => {
-            if is_reference(surface, rows, row) {
-                let referent = refers_at(s, surface, declarations, work, count, row);
-                clear_from(work, 0);
-                return binding_of(referent);
-            }
-            clear_all(surface, core, declarations, work);
-            Binding::Refused(nowhere_12())
-        }
+    // Loading's own refusal comes before 12.
+    let loaded = loader::load(s, surface, core, declarations, work)?;
+    if is_reference(surface, loaded.rows, row) {
+        let referent = refers_at(s, surface, declarations, work, loaded.declarations, row);
+        clear_from(work, 0);
+        return binding_of(referent);
     }
+    clear_all(surface, core, declarations, work);
+    Err(Refusal::nowhere(Class::NoDeclaration))
 }

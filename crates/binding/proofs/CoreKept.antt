@@ -6,6 +6,7 @@ use Prim.Native.Nat.{ℕ, ◌+◌, ◌*◌, ◌<◌, ◌≤◌}
 use native.Mathlib.Omega.{arith}
 use native.Mathlib.Nat.{add-zero}
 use lib.ListN.{length, get_or}
+use Rattle.std.specs.Prelude.{Ok, Err}
 use Rattle.terms.specs.Forms.{var_kind, global_kind}
 use Rattle.terms.specs.Tree.{Cell}
 use Rattle.terms.specs.Label.{Declaration}
@@ -21,7 +22,8 @@ use Rattle.surface.specs.Reader.{Position, start, Result, done, refused}
 use Rattle.surface.specs.Tables.{Lengths, Tables, lengths}
 use Rattle.surface.specs.Loading.{loading, Outcome, outcome, load}
 use Rattle.surface.proofs.Acceptance.{is_read, is_loaded}
-use Rattle.binding.specs.declared.Binding.{Binding}
+use Rattle.binding.specs.declared.Binder.{Binder}
+use Rattle.binding.specs.Answer.{Binding}
 use Rattle.binding.specs.Binds.{Answers, left}
 use Rattle.binding.specs.Statements.{CoreRow, CoreKept}
 use Rattle.binding.proofs.Modules.{module_referents}
@@ -67,29 +69,29 @@ module _ (s : List ℕ) (z : Lengths) (ds : List Declaration) (q : Position) (e 
   second_word r n h f = let w = word r f 1 (omega arith) in w.2 ∙ h w.0 w.1
 
   kept : (a : Binding) → Answers s k (done ds q) a → CoreRow k (pad z.core (joined rows)) a
-  kept (Binding.Local count row) f =
+  kept (Ok (Binder.Local count row)) f =
       let r = local (found count row) in
       let g = bound_row s ds k count row f in (
         first_word r var_kind (λ c h. ap (core_kind c.label.label) h) g,
         second_word r count (λ c h. ap (λ (x : Core). get_or (core_words c.label.label x c.children) 1 0) h) g,
       )
-  kept (Binding.Global place) f =
+  kept (Ok (Binder.Global place)) f =
       let r = declared place in
       let g = unbound_row s ds k place f in (
         first_word r global_kind (λ c h. ap (core_kind c.label.label) h) g,
         second_word r place (λ c h. ap (λ (x : Core). get_or (core_words c.label.label x c.children) 1 0) h) g,
       )
-  kept (Binding.Refused x) f = tt
+  kept (Err x) f = tt
 
 -- What is left of the core table, whatever was answered.
 by : (s : List ℕ) (z : Lengths) (k : ℕ) (o : Result (List Declaration)) → loading s z start ≡ o → (a : Binding) → Answers s k o a → CoreRow k (left s z a).core a
 unfolding load
 by s z k (refused r) e a f = subst (λ (x : Binding). CoreRow k (left s z x).core x) (sym f) tt
-by s z k (done ds q) e (Binding.Local count row) f =
-    subst (λ (o : Outcome). CoreRow k o.tables.core (Binding.Local count row)) (sym (ap (outcome s z) e)) (kept s z ds q e k (Binding.Local count row) f)
-by s z k (done ds q) e (Binding.Global place) f =
-    subst (λ (o : Outcome). CoreRow k o.tables.core (Binding.Global place)) (sym (ap (outcome s z) e)) (kept s z ds q e k (Binding.Global place) f)
-by s z k (done ds q) e (Binding.Refused x) f = tt
+by s z k (done ds q) e (Ok (Binder.Local count row)) f =
+    subst (λ (o : Outcome). CoreRow k o.tables.core (Ok (Binder.Local count row))) (sym (ap (outcome s z) e)) (kept s z ds q e k (Ok (Binder.Local count row)) f)
+by s z k (done ds q) e (Ok (Binder.Global place)) f =
+    subst (λ (o : Outcome). CoreRow k o.tables.core (Ok (Binder.Global place))) (sym (ap (outcome s z) e)) (kept s z ds q e k (Ok (Binder.Global place)) f)
+by s z k (done ds q) e (Err x) f = tt
 
 pub core_kept : CoreKept
 core_kept s k before a after f =

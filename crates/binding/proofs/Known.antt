@@ -1,4 +1,5 @@
 -- In a module that is loaded, every reference is known.
+use Rattle.token.specs.declared.Class.{Class}
 use mathlib.Core.Path.{◌≡◌, refl, sym, ap, ◌∙◌}
 use mathlib.Core.List.{List, [], ◌∷◌, ◌++◌, map}
 use mathlib.Core.Option.{Option, none, some}
@@ -47,8 +48,8 @@ known_module s (d ∷ l) n g e =
     go : (a : Option ℕ) (b : Option Label) → first_unknown (resolve_declaration s g d) ≡ b → (first_unknown (resolve_declaration s g d) ≡ none → Known (cells n (resolve_declaration s g d)))
         → (first_refused s (g ++ (declared_name s d ∷ [])) l ≡ none → Known (module_cells s (next n (resolve_declaration s g d)) (resolve_module s (g ++ (declared_name s d ∷ [])) l)))
         → ◌≡◌ {A = Option RefusedName} (elim a as (λ _. Option RefusedName) [
-          | some i ↦ some (refused_name 4 d.start d.length)
-          | none ↦ elim b as (λ _. Option RefusedName) [ some u ↦ some (refused_name 5 u.start u.length) | none ↦ first_refused s (g ++ (declared_name s d ∷ [])) l ]
+          | some i ↦ some (refused_name Class.DuplicateName d.start d.length)
+          | none ↦ elim b as (λ _. Option RefusedName) [ some u ↦ some (refused_name Class.UnknownName u.start u.length) | none ↦ first_refused s (g ++ (declared_name s d ∷ [])) l ]
         ]) none
         → Known (cells n (resolve_declaration s g d) ++ module_cells s (next n (resolve_declaration s g d)) (resolve_module s (g ++ (declared_name s d ∷ [])) l))
     go (some i) b q x y f = none_some (sym f)

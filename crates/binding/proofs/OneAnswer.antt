@@ -4,6 +4,7 @@ use mathlib.Core.List.{List, []}
 use mathlib.Core.Option.{Option, some}
 use Prim.Native.Nat.{ℕ}
 use native.Mathlib.Omega.{arith}
+use Rattle.std.specs.Prelude.{Ok, Err}
 use Rattle.terms.specs.Label.{Declaration}
 use Rattle.terms.specs.RowAt.{entry}
 use Rattle.terms.specs.Lookup.{found, Referent, local, global}
@@ -11,7 +12,8 @@ use Rattle.terms.proofs.Names.{some_inj}
 use Rattle.surface.specs.Reader.{Position, start, Result, done, refused}
 use Rattle.surface.specs.Tables.{Lengths, lengths}
 use Rattle.surface.specs.Loading.{loading}
-use Rattle.binding.specs.declared.Binding.{Binding}
+use Rattle.binding.specs.declared.Binder.{Binder}
+use Rattle.binding.specs.Answer.{Binding}
 use Rattle.binding.specs.Binds.{Answers, left}
 use Rattle.binding.specs.Statements.{OneAnswer}
 use Rattle.binding.proofs.Modules.{module_referents}
@@ -28,20 +30,20 @@ module _ (s : List ℕ) (k : ℕ) (ds : List Declaration) (p : Position) where
   apart c r j e = let z : ◌≡◌ {A = ℕ} 0 1 = cc in omega arith
 
   one : (a b : Binding) → Answers s k (done ds p) a → Answers s k (done ds p) b → a ≡ b
-  one (Binding.Local c r) (Binding.Local d t) f g =
+  one (Ok (Binder.Local c r)) (Ok (Binder.Local d t)) f g =
       let e = same_row (local (found c r)) (local (found d t)) (bound_row s ds k c r f) (bound_row s ds k d t g) in
       let h : found c r ≡ found d t = cc in
-      λ i. Binding.Local (h i).count (h i).row
-  one (Binding.Local c r) (Binding.Global j) f g = absurd (apart c r j (same_row _ _ (bound_row s ds k c r f) (unbound_row s ds k j g)))
-  one (Binding.Local c r) (Binding.Refused x) f g = absurd (g.1 f.term f.is_ref)
-  one (Binding.Global j) (Binding.Local c r) f g = absurd (apart c r j (same_row _ _ (bound_row s ds k c r g) (unbound_row s ds k j f)))
-  one (Binding.Global j) (Binding.Global i) f g =
+      λ i. Ok (Binder.Local (h i).count (h i).row)
+  one (Ok (Binder.Local c r)) (Ok (Binder.Global j)) f g = absurd (apart c r j (same_row _ _ (bound_row s ds k c r f) (unbound_row s ds k j g)))
+  one (Ok (Binder.Local c r)) (Err x) f g = absurd (g.1 f.term f.is_ref)
+  one (Ok (Binder.Global j)) (Ok (Binder.Local c r)) f g = absurd (apart c r j (same_row _ _ (bound_row s ds k c r g) (unbound_row s ds k j f)))
+  one (Ok (Binder.Global j)) (Ok (Binder.Global i)) f g =
       let e = same_row (global j) (global i) (unbound_row s ds k j f) (unbound_row s ds k i g) in
-      ap Binding.Global (let m : j ≡ i = cc in m)
-  one (Binding.Global j) (Binding.Refused x) f g = absurd (g.1 f.term f.is_ref)
-  one (Binding.Refused x) (Binding.Local c r) f g = absurd (f.1 g.term g.is_ref)
-  one (Binding.Refused x) (Binding.Global j) f g = absurd (f.1 g.term g.is_ref)
-  one (Binding.Refused x) (Binding.Refused y) f g = ap Binding.Refused (f.0 ∙ sym g.0)
+      ap (λ (n : ℕ). Ok (Binder.Global n)) (let m : j ≡ i = cc in m)
+  one (Ok (Binder.Global j)) (Err x) f g = absurd (g.1 f.term f.is_ref)
+  one (Err x) (Ok (Binder.Local c r)) f g = absurd (f.1 g.term g.is_ref)
+  one (Err x) (Ok (Binder.Global j)) f g = absurd (f.1 g.term g.is_ref)
+  one (Err x) (Err y) f g = ap Err (f.0 ∙ sym g.0)
 
 pub one_binding : (s : List ℕ) (k : ℕ) (o : Result (List Declaration)) (a b : Binding) → Answers s k o a → Answers s k o b → a ≡ b
 one_binding s k (refused r) a b f g = f ∙ sym g

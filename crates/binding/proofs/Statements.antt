@@ -5,6 +5,7 @@ use mathlib.Core.List.{List}
 use mathlib.Core.Option.{some}
 use Prim.Native.Nat.{ℕ}
 use native.Mathlib.Omega.{arith}
+use Rattle.std.specs.Prelude.{Ok, Err}
 use Rattle.terms.specs.Forms.{pi, lam, sigma, arrow}
 use Rattle.terms.specs.Label.{Declaration, Term}
 use Rattle.terms.specs.Agreement.{Covers}
@@ -16,7 +17,8 @@ use Rattle.surface.specs.Reader.{start, Result, done, refused}
 use Rattle.surface.specs.Tables.{lengths}
 use Rattle.surface.specs.Reports.{report_refusal}
 use Rattle.surface.specs.Loading.{loading}
-use Rattle.binding.specs.declared.Binding.{Binding}
+use Rattle.binding.specs.declared.Binder.{Binder}
+use Rattle.binding.specs.Answer.{Binding}
 use Rattle.binding.specs.Binds.{Answers, report_binding}
 use Rattle.binding.specs.Statements.{OneAnswer, EveryRow, CoreKept, BinderHigher, NeverAnArrow, BindingReports, BinderReports}
 use Rattle.binding.proofs.OneAnswer as one
@@ -53,9 +55,9 @@ never_an_arrow s ds k count row b t e =
 
 reports : (s : List ℕ) (k : ℕ) (o : Result (List Declaration)) (a : Binding) → Answers s k o a → BindingReports s k o (report_binding a)
 reports s k (refused r) a f = ap report_binding f
-reports s k (done ds p) (Binding.Local count row) f = inl (count, row, refl, f)
-reports s k (done ds p) (Binding.Global place) f = inr (inl (place, refl, f))
-reports s k (done ds p) (Binding.Refused r) f = inr (inr (ap report_refusal f.0, f.1))
+reports s k (done ds p) (Ok (Binder.Local count row)) f = inl (count, row, refl, f)
+reports s k (done ds p) (Ok (Binder.Global place)) f = inr (inl (place, refl, f))
+reports s k (done ds p) (Err r) f = inr (inr (ap report_refusal f.0, f.1))
 
 pub binder_reports : BinderReports
 binder_reports s k before a after f = reports s k (loading s (lengths before) start) a f.0

@@ -1,5 +1,6 @@
 -- Document 02, Req 04, "Go to the binder", and Req 10: what binds the reference at a row. "the definition of scope is the measure".
-use Rattle.std.specs.Prelude.{◌≡◌, List, [], ◌∷◌, map, cond, ℕ, ◌+◌, take}
+use Rattle.token.specs.declared.Class.{Class}
+use Rattle.std.specs.Prelude.{◌≡◌, List, [], ◌∷◌, map, cond, ℕ, ◌+◌, take, Ok, Err}
 use Rattle.std.proofs.Math.Option.{some}
 use Rattle.terms.specs.Forms.{ref}
 use Rattle.terms.specs.Tree.{Place, maybe, pick, at, relabel}
@@ -11,7 +12,8 @@ use Rattle.surface.specs.Reader.{start, Result, done, refused, nowhere}
 use Rattle.surface.specs.Tables.{Lengths, Tables, lengths, blank}
 use Rattle.surface.specs.Reports.{Report, accepted, report_refusal}
 use Rattle.surface.specs.Loading.{loading, load}
-use Rattle.binding.specs.declared.Binding.{Binding}
+use Rattle.binding.specs.declared.Binder.{Binder}
+use Rattle.binding.specs.Answer.{Binding}
 
 -- How many pi, sigma, lam and arrow terms there are in whose codomain or body the place p of t stands. Req 10, of an arrow: "in the codomain it
 -- counts as one binder that no name reaches". So it counts here, and by `BoundBy` it is never what binds.
@@ -70,16 +72,16 @@ pub record Unbound (s : List ℕ) (ds : List Declaration) (k place : ℕ) : Type
 
 -- What is promised of the answer for row k. "12 is also given, after loading, when the row is no reference": no term with this row is one.
 abbrev pub Answers : List ℕ → ℕ → Result (List Declaration) → Binding → Type 0
-Answers s k (refused r) b = b ≡ Binding.Refused r
-Answers s k (done ds p) (Binding.Local count row) = Bound s ds k count row
-Answers s k (done ds p) (Binding.Global place) = Unbound s ds k place
-Answers s k (done ds p) (Binding.Refused r) = (r ≡ nowhere 12) × ((w : Standing s ds k) → IsRef w → ⊥)
+Answers s k (refused r) b = b ≡ Err r
+Answers s k (done ds p) (Ok (Binder.Local count row)) = Bound s ds k count row
+Answers s k (done ds p) (Ok (Binder.Global place)) = Unbound s ds k place
+Answers s k (done ds p) (Err r) = (r ≡ nowhere Class.NoDeclaration) × ((w : Standing s ds k) → IsRef w → ⊥)
 
 -- "leaving the tables as loading does"; after a refusal, 12 included, they are all 0.
 abbrev pub left : List ℕ → Lengths → Binding → Tables
-left s z (Binding.Local count row) = (load s z).tables
-left s z (Binding.Global place) = (load s z).tables
-left s z (Binding.Refused r) = blank z
+left s z (Ok (Binder.Local count row)) = (load s z).tables
+left s z (Ok (Binder.Global place)) = (load s z).tables
+left s z (Err r) = blank z
 
 -- The promise of `binder`: a call for the source s and the row k, with such tables before it, gives this answer and leaves these tables.
 abbrev pub AsksBinder : List ℕ → ℕ → Tables → Binding → Tables → Type 0
@@ -87,6 +89,6 @@ AsksBinder s k before b after = Answers s k (loading s (lengths before) start) b
 
 -- Its number and values: two for a local, one for a global.
 abbrev pub report_binding : Binding → Report
-report_binding (Binding.Local count row) = accepted (count ∷ row ∷ [])
-report_binding (Binding.Global place) = accepted (place ∷ [])
-report_binding (Binding.Refused r) = report_refusal r
+report_binding (Ok (Binder.Local count row)) = accepted (count ∷ row ∷ [])
+report_binding (Ok (Binder.Global place)) = accepted (place ∷ [])
+report_binding (Err r) = report_refusal r

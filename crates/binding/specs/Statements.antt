@@ -1,5 +1,6 @@
 -- Statements about calls of `binder`, each as a type; binding/proofs/Statements.antt has a proof of each.
-use Rattle.std.specs.Prelude.{◌≡◌, ◌⊎◌, List, [], ◌∷◌, ℕ, ◌+◌, ◌*◌, ◌<◌, get_or}
+use Rattle.token.specs.declared.Class.{Class}
+use Rattle.std.specs.Prelude.{◌≡◌, ◌⊎◌, List, [], ◌∷◌, ℕ, ◌+◌, ◌*◌, ◌<◌, get_or, Ok, Err}
 use Rattle.std.proofs.Math.Option.{some}
 use Rattle.terms.specs.Forms.{var_kind, global_kind, arrow}
 use Rattle.terms.specs.Tree.{at}
@@ -8,7 +9,8 @@ use Rattle.surface.specs.Reader.{Position, start, Result, done, refused, nowhere
 use Rattle.surface.specs.Tables.{Lengths, Tables, lengths}
 use Rattle.surface.specs.Reports.{Report, accepted, report_refusal}
 use Rattle.surface.specs.Loading.{loading}
-use Rattle.binding.specs.declared.Binding.{Binding}
+use Rattle.binding.specs.declared.Binder.{Binder}
+use Rattle.binding.specs.Answer.{Binding}
 use Rattle.binding.specs.Binds.{Standing, IsRef, Bound, Unbound, AsksBinder, report_binding}
 
 -- Nothing is left free: two calls for one source and one row, with tables of equal lengths, give the same answer and leave the same tables.
@@ -25,9 +27,9 @@ EveryRow =
 
 -- "Nothing in the core changes": after an answer row k of the core table is the var with this count, or the global with this place.
 abbrev pub CoreRow : ℕ → List ℕ → Binding → Type 0
-CoreRow k core (Binding.Local count row) = (get_or core (k * 8) 0 ≡ var_kind) × (get_or core (k * 8 + 1) 0 ≡ count)
-CoreRow k core (Binding.Global place) = (get_or core (k * 8) 0 ≡ global_kind) × (get_or core (k * 8 + 1) 0 ≡ place)
-CoreRow k core (Binding.Refused r) = Unit {0}
+CoreRow k core (Ok (Binder.Local count row)) = (get_or core (k * 8) 0 ≡ var_kind) × (get_or core (k * 8 + 1) 0 ≡ count)
+CoreRow k core (Ok (Binder.Global place)) = (get_or core (k * 8) 0 ≡ global_kind) × (get_or core (k * 8 + 1) 0 ≡ place)
+CoreRow k core (Err r) = Unit {0}
 
 abbrev pub CoreKept : Type 0
 CoreKept = (s : List ℕ) (k : ℕ) (before : Tables) (a : Binding) (after : Tables) → AsksBinder s k before a after → CoreRow k after.core a
@@ -48,7 +50,7 @@ BindingReports s k (refused r) n = n ≡ report_refusal r
 BindingReports s k (done ds p) n =
     ((count row : ℕ) × (n ≡ accepted (count ∷ row ∷ [])) × Bound s ds k count row)
     ⊎ (((place : ℕ) × (n ≡ accepted (place ∷ [])) × Unbound s ds k place)
-    ⊎ ((n ≡ report_refusal (nowhere 12)) × ((w : Standing s ds k) → IsRef w → ⊥)))
+    ⊎ ((n ≡ report_refusal (nowhere Class.NoDeclaration)) × ((w : Standing s ds k) → IsRef w → ⊥)))
 
 abbrev pub BinderReports : Type 0
 BinderReports =

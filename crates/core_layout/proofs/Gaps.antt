@@ -57,3 +57,12 @@ module _ (t : List ℕ) (a e : ℕ) (h : a ≤ e) (i : e ≤ length t) where
 -- The gap of a flag and a kind that are known.
 pub by_gap : (l : List ℕ) {b c : Bool} {k m : TokenKind} → b ≡ c → k ≡ m → same_bytes l (gap c m) ≡ same_bytes l (gap b k)
 by_gap l e f = λ i. same_bytes l (gap (sym e i) (sym f i))
+
+-- Before any other token one space stands.
+pub by_space : {b : Bool} {k : TokenKind} → b ≡ false → (k ≡ TokenKind.RParen → ⊥) → (k ≡ TokenKind.Eof → ⊥) → gap b k ≡ 32 ∷ []
+by_space {k = k} e n m = ap (λ b. gap b k) e ∙ go k n m
+  where
+    go : (k : TokenKind) → (k ≡ TokenKind.RParen → ⊥) → (k ≡ TokenKind.Eof → ⊥) → gap false k ≡ 32 ∷ []
+    go TokenKind.RParen n m = absurd (n refl)
+    go TokenKind.Eof n m = absurd (m refl)
+    go k n m = refl

@@ -1,14 +1,16 @@
 -- The scan before a token: the layout of the whole text is that of the tokens from there on.
+use Rattle.std.specs.Prelude.{Ok, Err}
 use mathlib.Core.Path.{◌≡◌, refl, sym, ap, ◌∙◌, subst}
 use mathlib.Core.List.{List}
 use mathlib.Core.Bool.{Bool, true, false, ◌&&◌, ◌||◌, false≢true}
 use Prim.Native.Nat.{ℕ, zero, suc, ◌+◌, ◌≤◌, ◌<◌}
 use native.Mathlib.Omega.{arith}
 use lib.ListN.{length}
+use denote.Enum.Bare.{sameb}
+use Rattle.token.specs.contracts.TokenKind.{the_type}
 use Rattle.token.specs.declared.TokenKind.{TokenKind}
 use Rattle.token.specs.declared.Token.{Token}
 use Rattle.token.specs.declared.Refusal.{Refusal}
-use Rattle.token.specs.declared.Lexed.TheVariants.{Got, Refused}
 use Rattle.token.proofs.Bounds.{SpanOf, Within}
 use Rattle.core_token.specs.CoreToken.{next_core_token}
 use Rattle.core_token.proofs.Bounds.{bounds}
@@ -16,6 +18,21 @@ use Rattle.surface.specs.Text.{is_open, is_end}
 use Rattle.core_layout.specs.inner.Layout.{laid_out, canonical_layout}
 use Rattle.core_layout.proofs.Starts.{span}
 use Rattle.core_layout.proofs.Turns.{in_front, turn, turn_refused}
+
+-- Whether a kind is the end or an opening parenthesis, by the code's `==`.
+pub end_is : (k : TokenKind) → sameb the_type k TokenKind.Eof ≡ is_end k
+end_is TokenKind.Eof = refl
+end_is TokenKind.LParen = refl
+end_is TokenKind.RParen = refl
+end_is TokenKind.Atom = refl
+end_is TokenKind.String = refl
+
+pub open_is : (k : TokenKind) → sameb the_type k TokenKind.LParen ≡ is_open k
+open_is TokenKind.Eof = refl
+open_is TokenKind.LParen = refl
+open_is TokenKind.RParen = refl
+open_is TokenKind.Atom = refl
+open_is TokenKind.String = refl
 
 -- `left`: how many tokens may still be looked at, which are enough.
 pub record Scanned (t : List ℕ) (at : ℕ) (tight : Bool) : Type 0 where
@@ -39,10 +56,10 @@ module _ (t : List ℕ) (at : ℕ) (tight : Bool) (s : Scanned t at tight) where
   from_here : canonical_layout t ≡ laid_out t (suc fewer) tight at
   from_here = s.same ∙ ap (λ (n : ℕ). laid_out t n tight at) (one_left s.left s.enough).1
 
-  pub scan_refused : (r : Refusal) → next_core_token t at ≡ Refused r → canonical_layout t ≡ false
+  pub scan_refused : (r : Refusal) → next_core_token t at ≡ Err r → canonical_layout t ≡ false
   scan_refused r e = from_here ∙ turn_refused t fewer tight at r e
 
-  module _ (u : Token) (e : next_core_token t at ≡ Got u) where
+  module _ (u : Token) (e : next_core_token t at ≡ Ok u) where
     start_by : (k : TokenKind) → SpanOf k at u.start u.end (length t) → (at ≤ u.start) × (u.start ≤ length t)
     start_by TokenKind.LParen h = (h.low, omega (arith, h.some, h.high))
     start_by TokenKind.RParen h = (h.low, omega (arith, h.some, h.high))

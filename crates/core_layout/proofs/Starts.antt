@@ -1,4 +1,5 @@
 -- What stands in front of a token of a core text, and its own bytes.
+use Rattle.std.specs.Prelude.{Ok, Err}
 use mathlib.Core.Path.{◌≡◌, refl, sym, ap, ◌∙◌, subst}
 use mathlib.Core.List.{List, [], ◌∷◌, ◌++◌}
 use mathlib.Core.Bool.{Bool, true, false, cond, ◌||◌}
@@ -8,10 +9,9 @@ use lib.Dec.{leb, eqb}
 use lib.ListN.{length, take, drop, get_or}
 use lib.Seq.{drop-drop, get_or-drop, take-add}
 use borrow.Author.Tests.{eqb-true}
-use Rattle.token.specs.Token.{within, layout_byte, malformed, token}
+use Rattle.token.specs.Token.{within, layout_byte, malformed, token, Lexed}
 use Rattle.token.specs.declared.TokenKind.{TokenKind}
 use Rattle.token.specs.declared.Token.{Token}
-use Rattle.token.specs.declared.Lexed.{Lexed}
 use Rattle.token.proofs.Bounds.{Span, SpanOf, Within}
 use Rattle.token.proofs.Runs.{drop_next}
 use Rattle.core_token.specs.CoreToken.{core_class, string_class, core_atom_from, Open, nothing, backslash, lead, string_from, core_token_from, next_core_token}
@@ -42,8 +42,8 @@ module _ (t : List ℕ) where
   Meets at TokenKind.Eof a e = Unit {0}
 
   abbrev Starts : ℕ → Lexed → Type 0
-  Starts at (Lexed.Got u) = Meets at u.kind u.start u.end
-  Starts at (Lexed.Refused r) = Unit {0}
+  Starts at (Ok u) = Meets at u.kind u.start u.end
+  Starts at (Err r) = Unit {0}
 
   module _ (at : ℕ) (b : ℕ) (l : List ℕ) (d : drop at t ≡ b ∷ l) where
     byte_here : get_or t at 0 ≡ b
@@ -68,8 +68,8 @@ module _ (t : List ℕ) where
     meets_further e TokenKind.Eof a i h = tt
 
     starts_further : layout_byte b ≡ true → (x : Lexed) → Starts (at + 1) x → Starts at x
-    starts_further e (Lexed.Got u) h = meets_further e u.kind u.start u.end h
-    starts_further e (Lexed.Refused r) h = tt
+    starts_further e (Ok u) h = meets_further e u.kind u.start u.end h
+    starts_further e (Err r) h = tt
 
     -- a byte that is no layout
     led_here : layout_byte b ≡ false → Led at at
@@ -125,7 +125,7 @@ module _ (t : List ℕ) where
       starts_by at b l d (starts l (at + 1) (rest_here at b l d)) (layout_byte b) (eqb b 40) (eqb b 41) (eqb b 34) (within 0x21 0x7E b) refl refl refl
 
   -- A token that was taken at an offset.
-  module _ (at : ℕ) (u : Token) (e : next_core_token t at ≡ Lexed.Got u) where
+  module _ (at : ℕ) (u : Token) (e : next_core_token t at ≡ Ok u) where
     starts_got : Meets at u.kind u.start u.end
     unfolding next_core_token
     starts_got = subst (Starts at) e (starts (drop at t) at refl)

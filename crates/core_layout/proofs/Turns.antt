@@ -1,4 +1,5 @@
 -- One more token of the scan.
+use Rattle.std.specs.Prelude.{Ok, Err}
 use mathlib.Core.Path.{◌≡◌, refl, ap, ◌∙◌}
 use mathlib.Core.List.{List}
 use mathlib.Core.Bool.{Bool, false, ◌&&◌, ◌||◌, and-true}
@@ -6,7 +7,6 @@ use Prim.Native.Nat.{ℕ, suc, ◌-◌}
 use Rattle.token.specs.declared.TokenKind.{TokenKind}
 use Rattle.token.specs.declared.Token.{Token}
 use Rattle.token.specs.declared.Refusal.{Refusal}
-use Rattle.token.specs.declared.Lexed.TheVariants.{Got, Refused}
 use Rattle.core_token.specs.CoreToken.{next_core_token}
 use Rattle.words.specs.Words.{same_bytes}
 use Rattle.terms.specs.Label.{part}
@@ -25,11 +25,11 @@ abbrev pub in_front : List ℕ → Bool → ℕ → Token → Bool
 in_front t tight at u = same_bytes (part t at (u.start - at)) (gap tight u.kind)
 
 module _ (t : List ℕ) (n : ℕ) (tight : Bool) (at : ℕ) where
-  pub turn_refused : (r : Refusal) → next_core_token t at ≡ Refused r → laid_out t (suc n) tight at ≡ false
+  pub turn_refused : (r : Refusal) → next_core_token t at ≡ Err r → laid_out t (suc n) tight at ≡ false
   unfolding laid_out
   turn_refused r e = rw (e, laid_out)
 
-  module _ (u : Token) (e : next_core_token t at ≡ Got u) where
+  module _ (u : Token) (e : next_core_token t at ≡ Ok u) where
     pub turn : laid_out t (suc n) tight at ≡ (in_front t tight at u && (is_end u.kind || laid_out t n (is_open u.kind) u.end))
     unfolding laid_out
     turn = rw (e, laid_out)

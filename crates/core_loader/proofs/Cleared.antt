@@ -5,7 +5,7 @@ use Prim.Native.Nat.{ℕ, ◌*◌}
 use native.Mathlib.Omega.{arith}
 use lib.ListN.{length}
 use Rattle.terms.specs.Label.{Declaration}
-use Rattle.surface.specs.declared.Answer.{Answer}
+use Rattle.surface.specs.Answer.{Answer}
 use Rattle.surface.specs.Reader.{Result, done, refused}
 use Rattle.surface.specs.Tables.{tables, lengths, leaves}
 use Rattle.surface.specs.Loading.{Outcome}

@@ -1,11 +1,13 @@
 -- From reading a core text to reading one that must be its own print.
+use Rattle.token.specs.declared.Class.{Class}
+use Rattle.std.specs.Prelude.{Err}
 use mathlib.Core.Path.{◌≡◌, refl, sym, ap, subst, ◌∙◌}
 use mathlib.Core.Bool.{Bool, true, false, cond}
 use mathlib.Core.List.{List}
 use Prim.Native.Nat.{ℕ}
 use Rattle.token.specs.declared.Refusal.{Refusal}
 use Rattle.terms.specs.Label.{Declaration}
-use Rattle.surface.specs.declared.Answer.{Answer}
+use Rattle.surface.specs.Answer.{Answer}
 use Rattle.surface.specs.Reader.{Position, start, Result, done, refused, nowhere}
 use Rattle.surface.specs.Tables.{Lengths}
 use Rattle.core_layout.specs.inner.Layout.{canonical_layout}
@@ -21,7 +23,7 @@ module _ (t core list core₁ list₁ : List ℕ) (z : Lengths) (a b : Answer) (
   Stored = StoresText (reading_canonical t z start) b core₁ list₁ × CountsText b core list
 
   -- A refusal stays.
-  kept : (c : Bool) (x : Refusal) → a ≡ Answer.Refused x → cond c a (own_print a) ≡ Answer.Refused x
+  kept : (c : Bool) (x : Refusal) → a ≡ Err x → cond c a (own_print a) ≡ Err x
   kept true x f = f
   kept false x f = ap own_print f
 
@@ -36,8 +38,8 @@ module _ (t core list core₁ list₁ : List ℕ) (z : Lengths) (a b : Answer) (
       )
   by_layout ds q f g false l =
       let own = read_canonical_layout t _ _ _ ds q (is_text_read t z ds q f).reads ∙ l in
-      let k : b ≡ Answer.Refused (nowhere 13) = e ∙ rw l (ap own_print g.0) in
-      stops (reading_canonical t z start) core list core₁ list₁ b (nowhere 13) (rw (f, own)) k
+      let k : b ≡ Err (nowhere Class.CoreText) = e ∙ rw l (ap own_print g.0) in
+      stops (reading_canonical t z start) core list core₁ list₁ b (nowhere Class.CoreText) (rw (f, own)) k
 
   by : (o : Result (List Declaration)) → reading_text t z start ≡ o → StoresText o a core₁ list₁ → Stored
   unfolding reading_canonical

@@ -1,8 +1,10 @@
 -- From what reading a core text stores to what the call answers.
+use Rattle.token.specs.declared.Class.{Class}
+use Rattle.std.specs.Prelude.{Err}
 use mathlib.Core.Path.{◌≡◌, refl, sym, ap, subst, ◌∙◌}
 use mathlib.Core.Bool.{Bool, true, false, cond}
 use mathlib.Core.List.{List, []}
-use Prim.Native.Nat.{ℕ, ◌*◌, ◌/◌, ◌≤◌}
+use Prim.Native.Nat.{ℕ, ◌*◌, ◌/◌}
 use native.Mathlib.Omega.{arith}
 use lib.ListN.{length, take}
 use Rattle.token.specs.declared.Refusal.{Refusal}
@@ -12,25 +14,24 @@ use Rattle.terms.specs.Label.{Declaration}
 use Rattle.terms.specs.Rows.{joined, read_records}
 use Rattle.terms.proofs.Tables.{length_joined}
 use Rattle.terms.proofs.Widths.{wide_rows, total_rows}
-use Rattle.surface.specs.declared.Answer.{Answer}
+use Rattle.surface.specs.Answer.{Answer, loaded}
 use Rattle.surface.specs.Reader.{Position, start, Result, done, refused, after, at_offset}
 use Rattle.surface.specs.Tables.{Lengths, tables, lengths}
-use Rattle.surface.specs.SameCore.{row_count, declaration_count}
 use Rattle.core_text.specs.TextReading.{read_text}
 use Rattle.core_text.proofs.SoundText.{sound}
-use Rattle.reader.specs.declared.ModuleRead.{ModuleRead}
+use Rattle.reader.specs.Answers.{ModuleRead}
 use Rattle.core_reader.specs.Texts.{ReadsText}
 use Rattle.core_module.specs.CoreText.{told, repeated, text_row, text_rows, reading_text}
 use Rattle.loader.proofs.Fronts.{take_front, length_records}
 use Rattle.core_loader.specs.inner.Stored.{told_refusal, StoresText, CountsText, Judges}
 use Rattle.core_loader.proofs.Tests.{tested}
 
-none_counted : (x : Refusal) (core list : List ℕ) → CountsText (Answer.Refused x) core list
+none_counted : (x : Refusal) (core list : List ℕ) → CountsText (Err x) core list
 none_counted x core list = record { rows = omega arith; records = omega arith }
 
 -- The answer of a call that refuses.
 module _ (o : Result (List Declaration)) (core list core₁ list₁ : List ℕ) (a : Answer) where
-  pub stops : (x : Refusal) → o ≡ refused x → a ≡ Answer.Refused x → StoresText o a core₁ list₁ × CountsText a core list
+  pub stops : (x : Refusal) → o ≡ refused x → a ≡ Err x → StoresText o a core₁ list₁ × CountsText a core list
   stops x e f = (
     subst (λ (y : Result (List Declaration)). StoresText y a core₁ list₁) (sym e) f,
     subst (λ (b : Answer). CountsText b core list) (sym f) (none_counted x core list),
@@ -48,13 +49,13 @@ module _ (t core list work core₁ list₁ : List ℕ) (kept : length list₁ �
     Stored = StoresText (reading_text t z start) a core₁ list₁ × CountsText a core list
 
     by_name : (ds : List Declaration) (q : Position) → read ≡ done ds q → ReadsText (done ds q) core list r core₁ list₁ → (b : Bool) → repeated t [] ds ≡ b
-        → a ≡ cond (repeated t [] ds) (Answer.Refused (at_offset 13 0)) (Answer.Loaded q.rows (length ds)) → Stored
+        → a ≡ cond (repeated t [] ds) (Err (at_offset Class.CoreText 0)) (loaded q.rows (length ds)) → Stored
     by_name ds q e v true n f =
-        stops (reading_text t z start) core list core₁ list₁ a (at_offset 13 0) (reads ∙ rw (e, n)) (f ∙ rw n)
+        stops (reading_text t z start) core list core₁ list₁ a (at_offset Class.CoreText 0) (reads ∙ rw (e, n)) (f ∙ rw n)
     by_name ds q e v false n f =
         let s = sound t (length core / 8) (length list / 5) 512 ds q e in
         let rows : q.rows ≡ length (text_rows 0 ds) = omega (arith, s.rows, total_rows text_row 0 ds) in
-        let b : a ≡ Answer.Loaded q.rows (length ds) = f ∙ rw n in
+        let b : a ≡ loaded q.rows (length ds) = f ∙ rw n in
         let accepted : reading_text t z start ≡ done ds q = reads ∙ rw (e, n) in (
           subst (λ (y : Result (List Declaration)). StoresText y a core₁ list₁) (sym accepted) (
             b,

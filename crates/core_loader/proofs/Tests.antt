@@ -1,4 +1,5 @@
 -- Reading a core text, test by test.
+use Rattle.token.specs.declared.Class.{Class}
 use mathlib.Core.Path.{◌≡◌, refl, ap}
 use mathlib.Core.Bool.{true, false, not}
 use mathlib.Core.List.{List, []}
@@ -16,27 +17,27 @@ use Rattle.core_module.specs.CoreText.{told, repeated, reading_text}
 
 -- The test of the names.
 abbrev pub tested : List ℕ → List Declaration → Reader (List Declaration)
-tested t ds = require (not (repeated t [] ds)) (at_offset 13 0) >> pure ds
+tested t ds = require (not (repeated t [] ds)) (at_offset Class.CoreText 0) >> pure ds
 
 module _ (t : List ℕ) (z : Lengths) where
-  pub text_area : z.work < 16384 → reading_text t z start ≡ refused (nowhere 11)
+  pub text_area : z.work < 16384 → reading_text t z start ≡ refused (nowhere Class.WorkShort)
   unfolding reading_text
   text_area h = require_stops _ _ _ _ (lt-leb 16384 z.work h)
 
   module _ (area : 16384 ≤ z.work) where
-    pub text_long : 4294967295 < length t → reading_text t z start ≡ refused (nowhere 6)
+    pub text_long : 4294967295 < length t → reading_text t z start ≡ refused (nowhere Class.LongSource)
     unfolding reading_text
     text_long h = require_go _ _ _ _ _ (le-leb 16384 z.work area) (require_stops _ _ _ _ (lt-leb (length t) 4294967295 h))
 
     module _ (short : length t ≤ 4294967295) where
-      pub text_broken : (valid_length t ≡ length t → ⊥) → reading_text t z start ≡ refused (at_offset 13 (valid_length t))
+      pub text_broken : (valid_length t ≡ length t → ⊥) → reading_text t z start ≡ refused (at_offset Class.CoreText (valid_length t))
       unfolding reading_text
       text_broken h =
           require_go _ _ _ _ _ (le-leb 16384 z.work area)
           (require_go _ _ _ _ _ (le-leb (length t) 4294967295 short) (require_stops _ _ _ _ (ne_eqb (valid_length t) (length t) h)))
 
       module _ (valid : valid_length t ≡ length t) where
-        pub text_marked : byte_order_mark t ≡ true → reading_text t z start ≡ refused (at_offset 13 0)
+        pub text_marked : byte_order_mark t ≡ true → reading_text t z start ≡ refused (at_offset Class.CoreText 0)
         unfolding reading_text
         text_marked h =
             require_go _ _ _ _ _ (le-leb 16384 z.work area)

@@ -1,4 +1,6 @@
 -- Each term that is read begins where its label says.
+use Rattle.token.specs.Token.{Lexed}
+use Rattle.std.specs.Prelude.{Ok}
 use mathlib.Core.Path.{◌≡◌, refl, sym, ap, ◌∙◌, subst}
 use mathlib.Core.List.{List, [], ◌∷◌}
 use mathlib.Core.Option.{Option, none, some}
@@ -7,8 +9,6 @@ use Prim.Native.Nat.{ℕ, zero, suc}
 use lib.Dec.{ltb}
 use Rattle.token.specs.declared.TokenKind.{TokenKind}
 use Rattle.token.specs.declared.Token.{Token}
-use Rattle.token.specs.declared.Lexed.{Lexed}
-use Rattle.token.specs.declared.Lexed.TheVariants.{Got}
 use Rattle.core_token.specs.CoreToken.{next_core_token}
 use Rattle.terms.specs.Forms.{Shape, alone, with_name, with_numeral, binding, plain, Form, form_of_word, form_of_kind}
 use Rattle.terms.specs.TextForms.{text_forms}
@@ -38,7 +38,7 @@ module _ (s : List ℕ) where
   next = next_core_token s
 
   -- The next token behind one that was taken.
-  behind : (p q : Position) (t u : Token) → Took next p t q → next q.offset ≡ Got u → next t.end ≡ Got u
+  behind : (p q : Position) (t u : Token) → Took next p t q → next q.offset ≡ Ok u → next t.end ≡ Ok u
   behind p q t u w e = ap (λ (x : Position). next x.offset) (sym w.position) ∙ e
 
   -- A form that was found by its word.
@@ -52,7 +52,7 @@ module _ (s : List ℕ) where
     of_shape : (l : Label) (c : Shape) → l.kind ≡ f.kind → f.shape ≡ c → BeginsAs s l.offset f c l.start l.length → LabelBegins l
     of_shape l c k h b = (f, ap (λ (n : ℕ). form_of_kind n text_forms) k ∙ its_kind (text s w) f e, subst (λ (x : Shape). BeginsAs s l.offset f x l.start l.length) (sym h) b)
 
-    bare_begins : (at : ℕ) (c : Shape) (p q : Position) (h : Beginning) → next at ≡ Got w → w.kind ≡ TokenKind.Atom → f.shape ≡ c → bare text_edition s w f c p ≡ done h q → LabelBegins (label_of h)
+    bare_begins : (at : ℕ) (c : Shape) (p q : Position) (h : Beginning) → next at ≡ Ok w → w.kind ≡ TokenKind.Atom → f.shape ≡ c → bare text_edition s w f c p ≡ done h q → LabelBegins (label_of h)
     unfolding bare
     bare_begins at alone p q h g a c i =
         subst (λ (x : Beginning). LabelBegins (label_of x)) (done_inj i).0
@@ -62,7 +62,7 @@ module _ (s : List ℕ) where
     bare_begins at binding p q h g a c i = no_done i
     bare_begins at plain p q h g a c i = no_done i
 
-    tagged_begins : (o : Token) (at : ℕ) (c : Shape) (p q r : Position) (h : Beginning) → next at ≡ Got o → Opens o → next o.end ≡ Got w → w.kind ≡ TokenKind.Atom → Took next p w q → f.shape ≡ c
+    tagged_begins : (o : Token) (at : ℕ) (c : Shape) (p q r : Position) (h : Beginning) → next at ≡ Ok o → Opens o → next o.end ≡ Ok w → w.kind ≡ TokenKind.Atom → Took next p w q → f.shape ≡ c
         → tagged text_edition s o w f c q ≡ done h r → LabelBegins (label_of h)
     unfolding tagged text_edition
     tagged_begins o at alone p q r h g k u a t c i = no_done i

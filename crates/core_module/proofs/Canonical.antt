@@ -1,4 +1,6 @@
 -- The canonical reader takes exactly the texts that are their own print.
+use Rattle.token.specs.declared.Class.{Class}
+use Rattle.std.specs.Prelude.{Err}
 use mathlib.Core.Path.{◌≡◌, refl, sym, ap, ◌∙◌, subst}
 use mathlib.Core.Logic.{◌↔◌, ◌⊎◌, inl, inr}
 use mathlib.Core.Bool.{Bool, true, false}
@@ -10,7 +12,7 @@ use Rattle.token.specs.declared.Refusal.{Refusal}
 use Rattle.words.specs.Words.{same_bytes}
 use Rattle.words.proofs.Names.{eq_same, same_eq}
 use Rattle.terms.specs.Label.{Declaration}
-use Rattle.surface.specs.declared.Answer.{Answer}
+use Rattle.surface.specs.Answer.{Answer}
 use Rattle.surface.specs.Reader.{Position, start, Result, done, refused, after, pure, require, nowhere}
 use Rattle.surface.specs.Tables.{Lengths, Tables, lengths, leaves}
 use Rattle.surface.specs.Loading.{Outcome}
@@ -50,22 +52,22 @@ module _ (t : List ℕ) (z : Lengths) where
 
   -- A test behind reading, and the refusal where it fails.
   refuses : (test : List Declaration → Bool) (o : Result (List Declaration)) (r : Refusal) (left : Tables)
-      → leaves (Answer.Refused r) left ≡ text_outcome z (after o (λ ds p. after (require (test ds) (nowhere 13) p) (λ _. pure ds)))
-      → (leaves (Answer.Refused r) left ≡ text_outcome z o) ⊎ ((r ≡ nowhere 13) × Accepts (text_outcome z o))
+      → leaves (Err r) left ≡ text_outcome z (after o (λ ds p. after (require (test ds) (nowhere Class.CoreText) p) (λ _. pure ds)))
+      → (leaves (Err r) left ≡ text_outcome z o) ⊎ ((r ≡ nowhere Class.CoreText) × Accepts (text_outcome z o))
   refuses test (refused x) r left e = inl e
   refuses test (done ds p) r left e = go (test ds) e
     where
-      go : (b : Bool) → leaves (Answer.Refused r) left ≡ text_outcome z (after (require b (nowhere 13) p) (λ _. pure ds))
-          → (leaves (Answer.Refused r) left ≡ text_outcome z (done ds p)) ⊎ ((r ≡ nowhere 13) × Accepts (text_outcome z (done ds p)))
+      go : (b : Bool) → leaves (Err r) left ≡ text_outcome z (after (require b (nowhere Class.CoreText) p) (λ _. pure ds))
+          → (leaves (Err r) left ≡ text_outcome z (done ds p)) ⊎ ((r ≡ nowhere Class.CoreText) × Accepts (text_outcome z (done ds p)))
       go true e = inl e
       go false e = let f = ap (λ (o : Outcome). o.answer) e in inr (cc, (p.rows, length ds, refl))
 
-  refused_as : (a : Answer) (left : Tables) → leaves a left ≡ text_outcome z (reading_canonical t z start) → (r : Refusal) → a ≡ Answer.Refused r
-      → (leaves a left ≡ text_outcome z (reading_text t z start)) ⊎ ((r ≡ nowhere 13) × Accepts (text_outcome z (reading_text t z start)))
+  refused_as : (a : Answer) (left : Tables) → leaves a left ≡ text_outcome z (reading_canonical t z start) → (r : Refusal) → a ≡ Err r
+      → (leaves a left ≡ text_outcome z (reading_text t z start)) ⊎ ((r ≡ nowhere Class.CoreText) × Accepts (text_outcome z (reading_text t z start)))
   unfolding reading_canonical
   refused_as a left e r f =
       let i = ap (λ (x : Answer). leaves x left) f in
-      subst (λ (x : Outcome). (x ≡ text_outcome z (reading_text t z start)) ⊎ ((r ≡ nowhere 13) × Accepts (text_outcome z (reading_text t z start)))) (sym i)
+      subst (λ (x : Outcome). (x ≡ text_outcome z (reading_text t z start)) ⊎ ((r ≡ nowhere Class.CoreText) × Accepts (text_outcome z (reading_text t z start)))) (sym i)
       (refuses (λ ds. same_bytes t (print_module (map (spelled_text t) ds))) (reading_text t z start) r left (sym i ∙ e))
 
 pub canonical_exactly : CanonicalExactly

@@ -1,9 +1,12 @@
 -- The listing's input printed, what reading that leaves, and points of Req 03 that are easy to misread, computed by the definitions.
+use Rattle.token.specs.declared.Class.{Class}
+use Rattle.std.specs.Prelude.{Err}
 use mathlib.Core.Path.{◌≡◌, refl}
 use mathlib.Core.List.{List, [], ◌∷◌, ◌++◌, map}
 use Prim.Native.Nat.{ℕ}
 use Prim.Native.String.{String}
 use lib.ListN.{length}
+use Rattle.std.specs.Prelude.{Ok, Err}
 use Rattle.token.specs.Token.{byte_class, layout_end, atom_from, token_here, next_token}
 use Rattle.core_token.specs.CoreToken.{core_class, string_class, core_atom_from, string_from, core_token_from, next_core_token}
 use Rattle.words.specs.Words.{ascii, same_bytes, reserved_words, place_in, word_index, reserved, reserved_0_2, all, identifier, numeral}
@@ -12,15 +15,13 @@ use Rattle.terms.specs.Forms.{forms, forms_0_2, edition_0_1, edition_0_2, form_o
 use Rattle.terms.specs.TextForms.{text_forms}
 use Rattle.terms.specs.Resolution.{find, find_local, core_of, first_unknown, first_refused}
 use Rattle.terms.specs.Rows.{pad}
-use Rattle.surface.specs.declared.Answer.{Answer}
-use Rattle.surface.specs.declared.Answer.TheVariants.{Loaded, Refused}
+use Rattle.surface.specs.Answer.{Answer, loaded}
 use Rattle.surface.specs.Reader.{nowhere, at_offset}
 use Rattle.surface.specs.Reading.{store, finish, several, term, token, opening, closing, atom, word, natural, declaration_kind, name, bare, tagged, known, beginning_on, beginning, body, declared, declaration, ending, onwards, declarations, edition_of, supported, surface_line, module_line, head, read_module}
 use Rattle.surface.specs.Tables.{Lengths, tables, leaves}
 use Rattle.surface.specs.Loading.{parsing, reading, loading, Outcome}
 use Rattle.surface.specs.Card.{listing_lengths}
 use Rattle.core_text.specs.TextReading.{text_edition, string, end_token, text_head, declarations_line, read_text}
-use Rattle.printing.specs.declared.Printed.{Printed}
 use Rattle.printing.specs.Decimal.{digits, decimal}
 use Rattle.printing.specs.Printing.{print_shape, print_form, print_terms, declaration_word, print_declarations, print_module, print_text}
 use Rattle.printing.specs.PrintCall.{printing, print}
@@ -35,9 +36,9 @@ printed = ascii "(hott-core (format 0 1) (theory \"mltt-core\" 0 1) (declaration
 
 -- The text in a longer buffer, and one byte too few.
 pub listing_printed :
-    ((print listed listing_lengths 130).answer ≡ Printed.Text (length printed))
+    ((print listed listing_lengths 130).answer ≡ Ok (length printed))
     × ((print listed listing_lengths 130).text ≡ pad 130 printed)
-    × ((print listed listing_lengths 124).answer ≡ Printed.Refused (nowhere 14))
+    × ((print listed listing_lengths 124).answer ≡ Err (nowhere Class.TextShort))
 unfolding byte_class layout_end atom_from token_here next_token same_bytes reserved_words place_in word_index reserved reserved_0_2 all identifier numeral table_3_7 following valid_from valid_length byte_order_mark forms forms_0_2 edition_0_1 edition_0_2 form_of_word form_of_kind find find_local core_of first_unknown first_refused store finish several term token opening closing atom word natural declaration_kind name bare tagged known beginning_on beginning body declared declaration ending onwards declarations edition_of supported surface_line module_line head read_module parsing reading loading text_forms digits decimal print_shape print_form print_terms declaration_word print_declarations print_module print_text printing print
 listing_printed = (refl, refl, refl)
 
@@ -66,10 +67,10 @@ abbrev lent : Lengths → List ℕ → Answer → Point
 lent z t a = record { reads = read_core; lent = z; text = t; gives = a }
 
 abbrev at : ℕ → Answer
-at offset = Refused (at_offset 13 offset)
+at offset = Err (at_offset Class.CoreText offset)
 
-abbrev no_place : ℕ → Answer
-no_place class = Refused (nowhere class)
+abbrev no_place : Class → Answer
+no_place class = Err (nowhere class)
 
 -- The head, as tight as it can be, and what follows it.
 abbrev T : String → List ℕ
@@ -77,27 +78,27 @@ T w = ascii "(hott-core(format 0 1)(theory\"mltt-core\"0 1)(declarations" ++ asc
 
 abbrev pub points : List Point
 points =
-    core (T "))") (Loaded 0 0) ∷
+    core (T "))") (loaded 0 0) ∷
     core [] (at 0) ∷
     core (T ")") (at 58) ∷
     core (T ")))") (at 59) ∷
     -- canonical texts: what is printed, and nothing else
-    canonical printed (Loaded 4 2) ∷
-    canonical (T "))") (no_place 13) ∷
+    canonical printed (loaded 4 2) ∷
+    canonical (T "))") (no_place Class.CoreText) ∷
     canonical (T ")") (at 58) ∷
     -- no comments: `;` is an atom's byte
     core (T " ;c") (at 58) ∷
     core (T "(postulate\"a\"nat;x)))") (at 70) ∷
     -- strings touch their neighbours, hold any character but the forbidden ones, and are refused where their fault is
-    core (T "(postulate\"nat \\\"\\\\\"nat)))") (Loaded 1 1) ∷
+    core (T "(postulate\"nat \\\"\\\\\"nat)))") (loaded 1 1) ∷
     core (T "(postulate\"\"nat)))") (at 67) ∷
     core (T "(postulate\"a") (at 67) ∷
     core (T "(postulate\"a\\n\"nat)))") (at 69) ∷
     core (T "(postulate\"a" ++ ((194 ∷ 159 ∷ []) ++ ascii "\"nat)))")) (at 69) ∷
-    core (T "(postulate\"a" ++ ((194 ∷ 160 ∷ []) ++ ascii "\"nat)))")) (Loaded 1 1) ∷
+    core (T "(postulate\"a" ++ ((194 ∷ 160 ∷ []) ++ ascii "\"nat)))")) (loaded 1 1) ∷
     core (T "(postulate a nat)))") (at 68) ∷
     -- numerals are not looked at
-    core (T "(postulate\"a\"(var 99999999999999999999999))))") (Loaded 1 1) ∷
+    core (T "(postulate\"a\"(var 99999999999999999999999))))") (loaded 1 1) ∷
     core (T "(postulate\"a\"(var 00))))") (at 75) ∷
     core (T "(postulate\"a\"(ref a))))") (at 71) ∷
     core (T "(postulate\"a\"(arrow nat nat))))") (at 71) ∷
@@ -107,16 +108,16 @@ points =
     core (T "(postulate\"a\"nat)(opaque\"a\"nat nat)))]") (at 94) ∷
     -- versions: 2 behind the theory's parenthesis, whatever differs
     core (ascii "(hott-core (format 9 9) (theory \"x\" 0 1") (at 39) ∷
-    core (ascii "(hott-core (format 9 9) (theory \"x\" 0 1)") (no_place 2) ∷
-    core (ascii "(hott-core (format 0 2) (theory \"mltt-core\" 0 1)") (no_place 2) ∷
+    core (ascii "(hott-core (format 9 9) (theory \"x\" 0 1)") (no_place Class.Version) ∷
+    core (ascii "(hott-core (format 0 2) (theory \"mltt-core\" 0 1)") (no_place Class.Version) ∷
     core (ascii "(hott-core (format 0 01) (theory \"x\" 0 1)") (at 21) ∷
     -- order: 11, UTF-8, the mark; 9 at the parenthesis, 10 behind a completed term
-    lent (lends 8192 1280 16383) [] (no_place 11) ∷
+    lent (lends 8192 1280 16383) [] (no_place Class.WorkShort) ∷
     core (ascii "]" ++ (255 ∷ [])) (at 1) ∷
     core ((239 ∷ 187 ∷ 191 ∷ []) ++ T "))") (at 0) ∷
-    lent (lends 8192 4 16384) (T "(]") (no_place 9) ∷
-    lent (lends 7 1280 16384) (T "(postulate\"a\"nat") (no_place 10) ∷
-    lent (lends 15 1280 16384) (T "(postulate\"a\"(fst nat)") (no_place 10) ∷
+    lent (lends 8192 4 16384) (T "(]") (no_place Class.DeclarationsFull) ∷
+    lent (lends 7 1280 16384) (T "(postulate\"a\"nat") (no_place Class.CoreShort) ∷
+    lent (lends 15 1280 16384) (T "(postulate\"a\"(fst nat)") (no_place Class.CoreShort) ∷
     lent (lends 15 1280 16384) (T "(postulate\"a\"(fst nat") (at 78) ∷
     []
 
@@ -124,7 +125,7 @@ points =
 -- a name between its quotes.
 abbrev printed_leaves : Outcome
 printed_leaves =
-    leaves (Loaded 4 2) (tables []
+    leaves (loaded 4 2) (tables []
     (pad 8192
     (19 ∷ 0 ∷ 0 ∷ 0 ∷ 0 ∷ 0 ∷ 0 ∷ 78 ∷
     2 ∷ 110 ∷ 1 ∷ 0 ∷ 0 ∷ 0 ∷ 0 ∷ 102 ∷

@@ -1,4 +1,5 @@
 -- With tables for its bytes a core text is never refused for want of room.
+use Rattle.std.specs.Prelude.{Err}
 use mathlib.Core.Path.{◌≡◌, refl, subst}
 use mathlib.Core.List.{List, [], map}
 use mathlib.Core.Bool.{Bool, true, false, ◌||◌, not, false≢true}
@@ -7,11 +8,11 @@ use native.Mathlib.Omega.{arith}
 use lib.Dec.{leb, eqb}
 use lib.ListN.{length}
 use borrow.Author.Tests.{eqb-true}
+use Rattle.token.specs.declared.Class.{Class}
 use Rattle.token.specs.declared.Refusal.{Refusal}
 use Rattle.words.specs.Words.{same_bytes}
 use Rattle.utf8.specs.Utf8.{valid_length, byte_order_mark}
 use Rattle.terms.specs.Label.{Declaration}
-use Rattle.surface.specs.declared.Answer.{Answer}
 use Rattle.surface.specs.Reader.{Position, start, Result, done, refused, Reader, after, require}
 use Rattle.surface.specs.Tables.{Lengths}
 use Rattle.surface.specs.Loading.{frame_limit}
@@ -38,18 +39,11 @@ roomy_require true r p k h f = f
 roomy_require false r p k h f = h
 
 -- The classes that reading has from the text are told as others than 8, 9 and 10.
-not_full : (c : ℕ) → from_source c ≡ true → is_full (told_class c) ≡ false
-not_full c h = go (eqb c 1) (eqb c 2) (eqb c 3) (eqb c 7) refl refl refl refl h
-  where
-    at : (n : ℕ) → eqb c n ≡ true → is_full (told_class n) ≡ false → is_full (told_class c) ≡ false
-    at n e f = subst (λ (x : ℕ). is_full (told_class x) ≡ false) (let z : n ≡ c = omega (arith, eqb-true c n e) in z) f
-
-    go : (a b d e : Bool) → eqb c 1 ≡ a → eqb c 2 ≡ b → eqb c 3 ≡ d → eqb c 7 ≡ e → a || (b || (d || e)) ≡ true → is_full (told_class c) ≡ false
-    go true b d e i j k l m = at 1 i refl
-    go false true d e i j k l m = at 2 j refl
-    go false false true e i j k l m = at 3 k refl
-    go false false false true i j k l m = at 7 l refl
-    go false false false false i j k l m = absurd (false≢true m)
+not_full : (c : Class) → from_source c ≡ true → is_full (told_class c) ≡ false
+not_full Class.SurfaceFull h = absurd (false≢true h)
+not_full Class.DeclarationsFull h = absurd (false≢true h)
+not_full Class.CoreShort h = absurd (false≢true h)
+not_full c h = refl
 
 roomy_told : (t : List ℕ) (x : Result (List Declaration)) → Fits t x → Roomy (told x)
 roomy_told t (done ds q) h = tt
@@ -72,7 +66,7 @@ module _ (t : List ℕ) (z : Lengths) (h : length t / 3 ≤ z.core / 8) (k : len
       roomy_after (reading_text t z start) _ text_roomy
       (λ ds p. roomy_require (same_bytes t (print_module (map (spelled_text t) ds))) _ p _ refl tt)
 
-  answered : (x : Result (List Declaration)) → Roomy x → (r : Refusal) → (text_outcome z x).answer ≡ Answer.Refused r → is_full r.class ≡ false
+  answered : (x : Result (List Declaration)) → Roomy x → (r : Refusal) → (text_outcome z x).answer ≡ Err r → is_full r.class ≡ false
   answered (done ds q) f r e = absurd (let y : ◌≡◌ {A = ℕ} 0 1 = cc in omega arith)
   answered (refused c) f r e = subst (λ (x : Refusal). is_full x.class ≡ false) (let i : c ≡ r = cc in i) f
 

@@ -1,4 +1,6 @@
 -- What reading stores: the rows of the declarations that it gives, within the limit; and each of their terms begins where its label says.
+use Rattle.token.specs.declared.Class.{Class}
+use Rattle.token.specs.Token.{Lexed}
 use mathlib.Core.Path.{◌≡◌, refl, sym, ap, ◌∙◌}
 use mathlib.Core.List.{List, []}
 use mathlib.Core.Option.{Option}
@@ -9,7 +11,6 @@ use borrow.Author.Tests.{leb-true, eqb-true, not-true}
 use lib.ListN.{length}
 use Rattle.token.specs.declared.TokenKind.{TokenKind}
 use Rattle.token.specs.declared.Token.{Token}
-use Rattle.token.specs.declared.Lexed.{Lexed}
 use Rattle.core_token.specs.CoreToken.{next_core_token}
 use Rattle.words.specs.Words.{ascii, same_bytes}
 use Rattle.utf8.specs.Utf8.{valid_length, byte_order_mark}
@@ -164,7 +165,7 @@ module _ (s : List ℕ) where
       require_elim (is_end t.kind) _ p₁ _ x q e₁ (λ b e₂.
       ap (λ (y : Position). y.rows) (sym (done_inj e₂).1) ∙ same_rows tokens p p₁ t (token_done tokens p p₁ t f₁)))
 
-  require_keeps : (b : Bool) → Keeps (require b (nowhere 2))
+  require_keeps : (b : Bool) → Keeps (require b (nowhere Class.Version))
   require_keeps true p q a e = ap (λ (y : Position). y.rows) (sym (done_inj e).1)
   require_keeps false p q a e = no_done e
 

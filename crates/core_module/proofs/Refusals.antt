@@ -1,4 +1,7 @@
 -- Which refusals the two readers of a core text give, and where.
+use Rattle.token.specs.declared.Class.{Class}
+use Rattle.token.specs.Token.{Lexed}
+use Rattle.std.specs.Prelude.{Err, Ok}
 use mathlib.Core.Path.{◌≡◌, refl, ap, subst}
 use mathlib.Core.Logic.{◌⊎◌, inl, inr}
 use mathlib.Core.List.{List, [], ◌∷◌, map}
@@ -11,7 +14,6 @@ use lib.ListN.{length, drop, length-drop}
 use Rattle.token.specs.declared.Refusal.{Refusal}
 use Rattle.token.specs.declared.TokenKind.{TokenKind}
 use Rattle.token.specs.declared.Token.{Token}
-use Rattle.token.specs.declared.Lexed.{Lexed}
 use Rattle.token.proofs.Bounds.{SpanOf, Within}
 use Rattle.core_token.specs.CoreToken.{core_class, string_class, core_atom_from, Open, nothing, backslash, lead, string_from, core_token_from, next_core_token}
 use Rattle.core_token.proofs.Outcomes.{atom_by, string_by, cond_by, test_by, here_by}
@@ -25,7 +27,6 @@ use Rattle.terms.specs.Label.{Label, Declaration}
 use Rattle.surface.specs.Text.{text, is_open, is_close, is_atom, is_string, is_end}
 use Rattle.surface.specs.Reader.{Position, start, Result, done, refused, Reader, after, require, nowhere, at_offset}
 use Rattle.surface.specs.Reading.{Beginning, leaf, frame, store, finish, several, term, lexed, token, opening, closing, atom, word, natural, name, declaration_kind, bare, tagged, known, beginning_on, beginning, body, declared, declaration, ending, onwards, declarations}
-use Rattle.surface.specs.declared.Answer.{Answer}
 use Rattle.surface.specs.Tables.{Lengths, Tables, lengths, blank, leaves}
 use Rattle.surface.specs.Loading.{frame_limit, Outcome}
 use Rattle.core_text.specs.TextReading.{text_edition, string, end_token, zero_one, text_head, declarations_line, read_text}
@@ -35,11 +36,11 @@ use Rattle.core_module.specs.Statements.{TextRefusal, version, long_text, many_f
 
 -- The refusals inside, for a text of n bytes: 1 within it; 2, 7, 8, 9 nowhere.
 data Inner (n : ℕ) : Refusal → Type 0 where
-  misfit : (p : ℕ) → p ≤ n → Inner n (at_offset 1 p)
-  other_version : Inner n (nowhere 2)
-  deep : Inner n (nowhere 7)
-  no_row : Inner n (nowhere 8)
-  no_declaration : Inner n (nowhere 9)
+  misfit : (p : ℕ) → p ≤ n → Inner n (at_offset Class.Malformed p)
+  other_version : Inner n (nowhere Class.Version)
+  deep : Inner n (nowhere Class.Frames)
+  no_row : Inner n (nowhere Class.SurfaceFull)
+  no_declaration : Inner n (nowhere Class.DeclarationsFull)
 
 -- What a reader gives holds Q and stands within n bytes, and its refusals pass R.
 abbrev Only : {A : Type 0} → ℕ → (Refusal → Type 0) → (A → Type 0) → Result A → Type 0
@@ -58,8 +59,8 @@ module _ (n : ℕ) (R : Refusal → Type 0) where
 -- Tokens are refused within the text.
 module _ (n : ℕ) where
   abbrev Refuses : Lexed → Type 0
-  Refuses (Lexed.Got t) = Unit {0}
-  Refuses (Lexed.Refused r) = Inner n r
+  Refuses (Ok t) = Unit {0}
+  Refuses (Err r) = Inner n r
 
   atom_refuses : (l : List ℕ) (start at : ℕ) → at + length l ≤ n → Refuses (core_atom_from start at l)
   unfolding core_atom_from
@@ -119,8 +120,8 @@ module _ (s : List ℕ) where
   span_in TokenKind.Eof lo a e h w = let v = w h in (omega (arith, v.0), omega (arith, v.1))
 
   lexed_in : (lo rows : ℕ) (x : Lexed) → lo ≤ length s → Within lo (length s) x → Refuses (length s) x → In Starts (lexed rows x)
-  lexed_in lo rows (Lexed.Got t) h w r = span_in t.kind lo t.start t.end h w
-  lexed_in lo rows (Lexed.Refused x) h w r = r
+  lexed_in lo rows (Ok t) h w r = span_in t.kind lo t.start t.end h w
+  lexed_in lo rows (Err x) h w r = r
 
   abbrev next : ℕ → Lexed
   next = next_core_token s
@@ -200,7 +201,7 @@ module _ (s : List ℕ) where
   module _ (limit : ℕ) where
     store_in : (t : Tree Label) (p : Position) → At p → In Any (store begin (closing next) limit t p)
     unfolding store
-    store_in t p h = test Any (ltb p.rows limit) (nowhere 8) p (λ a q. done t (record { offset = p.offset; rows = suc p.rows })) no_row (tt, h)
+    store_in t p h = test Any (ltb p.rows limit) (nowhere Class.SurfaceFull) p (λ a q. done t (record { offset = p.offset; rows = suc p.rows })) no_row (tt, h)
 
     finish_in : (arguments : ℕ → Reader (Forest Label)) (b : Beginning) (p : Position) → At p → ((n : ℕ) (q : Position) → At q → In Any (arguments n q)) → In Any (finish begin (closing next) limit arguments b p)
     unfolding finish
@@ -274,7 +275,7 @@ module _ (s : List ℕ) where
       then Starts Any (closing next q₃) _ (closing_in q₃ i₃) (λ f q₄ _ i₄.
       last (zero_one s a b && (same_bytes (text s m) (ascii "mltt-core") && zero_one s d e)) q₄ i₄)))))))))))))
     where
-      last : (b : Bool) (q : Position) → At q → In Any (require b (nowhere 2) q)
+      last : (b : Bool) (q : Position) → At q → In Any (require b (nowhere Class.Version) q)
       last true q h = (tt, h)
       last false q h = other_version
 
@@ -312,7 +313,7 @@ told_outer n (done ds p) h = h
 told_outer n (refused r) h = told_refusal n r h
 
 abbrev CanonicalRefusal : ℕ → Refusal → Type 0
-CanonicalRefusal n r = TextRefusal n r ⊎ (r ≡ nowhere 13)
+CanonicalRefusal n r = TextRefusal n r ⊎ (r ≡ nowhere Class.CoreText)
 
 module _ (t : List ℕ) (z : Lengths) where
   reads_outer : Outer (length t) (TextRefusal (length t)) (reading_text t z start)
@@ -322,19 +323,19 @@ module _ (t : List ℕ) (z : Lengths) where
       let o : 0 ≤ n = omega arith in
       let x = read_text t (z.core / 8) (z.declarations / 5) frame_limit start in
       let test = require_only n (TextRefusal n) (λ (ds : List Declaration). Unit {0}) in
-      test (leb 16384 z.work) (nowhere 11) start _ short_work
-      (test (leb n 4294967295) (nowhere 6) start _ long_text
-      (test (eqb (valid_length t) n) (at_offset 13 (valid_length t)) start _ (malformed (valid_length t) (valid_is_whole t).0)
-      (test (not (byte_order_mark t)) (at_offset 13 0) start _ (malformed 0 o)
+      test (leb 16384 z.work) (nowhere Class.WorkShort) start _ short_work
+      (test (leb n 4294967295) (nowhere Class.LongSource) start _ long_text
+      (test (eqb (valid_length t) n) (at_offset Class.CoreText (valid_length t)) start _ (malformed (valid_length t) (valid_is_whole t).0)
+      (test (not (byte_order_mark t)) (at_offset Class.CoreText 0) start _ (malformed 0 o)
       (after_only n (TextRefusal n) (λ ds. Unit {0}) (λ ds. Unit {0}) (told x) _ (told_outer n x (read_in t (z.core / 8) (z.declarations / 5) frame_limit start o)) (λ ds q _ h.
-      test (not (repeated t [] ds)) (at_offset 13 0) q (λ a r. done ds r) (malformed 0 o) (tt, h))))))
+      test (not (repeated t [] ds)) (at_offset Class.CoreText 0) q (λ a r. done ds r) (malformed 0 o) (tt, h))))))
 
   canonical_outer : Outer (length t) (CanonicalRefusal (length t)) (reading_canonical t z start)
   unfolding reading_canonical
   canonical_outer =
       let n = length t in
       after_only n (CanonicalRefusal n) (λ ds. Unit {0}) (λ ds. Unit {0}) (reading_text t z start) _ (weaken (reading_text t z start) reads_outer) (λ ds q _ h.
-      require_only n (CanonicalRefusal n) (λ ds. Unit {0}) (same_bytes t (print_module (map (spelled_text t) ds))) (nowhere 13) q (λ a r. done ds r) (inr refl) (tt, h))
+      require_only n (CanonicalRefusal n) (λ ds. Unit {0}) (same_bytes t (print_module (map (spelled_text t) ds))) (nowhere Class.CoreText) q (λ a r. done ds r) (inr refl) (tt, h))
     where
       weaken : (x : Result (List Declaration)) → Outer (length t) (TextRefusal (length t)) x → Outer (length t) (CanonicalRefusal (length t)) x
       weaken (done ds p) h = h
@@ -342,7 +343,7 @@ module _ (t : List ℕ) (z : Lengths) where
 
 -- What a call leaves that refuses.
 refused_leaves : (n : ℕ) (P : Refusal → Type 0) (z : Lengths) (x : Result (List Declaration)) (r : Refusal) (left : Tables) → Outer n P x
-    → leaves (Answer.Refused r) left ≡ text_outcome z x → P r × (left ≡ blank z)
+    → leaves (Err r) left ≡ text_outcome z x → P r × (left ≡ blank z)
 refused_leaves n P z (done ds p) r left h e =
     absurd (let f = ap (λ (o : Outcome). o.answer) e in
     let i : ◌≡◌ {A = ℕ} 0 1 = cc in

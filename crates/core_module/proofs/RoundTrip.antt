@@ -1,4 +1,5 @@
 -- The round trip, from the promises of `print`, `load` and the two readers.
+use Rattle.token.specs.declared.Class.{Class}
 use mathlib.Core.Path.{◌≡◌, refl, sym, ap, ◌∙◌, subst, subst₂}
 use mathlib.Core.Logic.{◌⊎◌, ⊎_elim}
 use mathlib.Core.List.{List, [], ◌∷◌}
@@ -8,10 +9,11 @@ use native.Mathlib.Omega.{arith}
 use lib.Dec.{leb}
 use borrow.Author.Tests.{leb-true, le-leb, lt-leb}
 use lib.ListN.{length, take}
+use Rattle.std.specs.Prelude.{Ok, Err}
 use Rattle.terms.specs.Label.{Declaration}
 use Rattle.terms.specs.Rows.{pad}
 use Rattle.terms.proofs.Widths.{total}
-use Rattle.surface.specs.declared.Answer.{Answer}
+use Rattle.surface.specs.Answer.{Answer}
 use Rattle.surface.specs.Grammar.{Derives}
 use Rattle.surface.specs.Reader.{Position, start, Result, done, refused, after, pure, require, nowhere}
 use Rattle.surface.specs.Tables.{Lengths, Tables, lengths, leaves}
@@ -21,7 +23,6 @@ use Rattle.surface.proofs.Takes.{after_go}
 use Rattle.surface.proofs.Steps.{after_elim, require_elim, done_inj}
 use Rattle.surface.proofs.CompleteModule.{unique}
 use Rattle.surface.proofs.Acceptance.{is_read, is_loaded}
-use Rattle.printing.specs.declared.Printed.{Printed}
 use Rattle.printing.specs.PrintCall.{text_of, printing, PrintLeft, print_outcome, print, Prints}
 use Rattle.core_module.specs.CoreText.{text_outcome, read_core, read_canonical, ReadsCore, ReadsCanonical}
 use Rattle.core_module.specs.SameText.{SameText}
@@ -63,11 +64,11 @@ record IsPrinted (s : List ℕ) (z : Lengths) (m n : ℕ) : Type 0 where
   text : take n (print s z m).text ≡ text_of s declarations
   tables : (print s z m).tables ≡ (load s z).tables
 
-is_printed : (s : List ℕ) (z : Lengths) (m n : ℕ) → (print s z m).answer ≡ Printed.Text n → IsPrinted s z m n
+is_printed : (s : List ℕ) (z : Lengths) (m n : ℕ) → (print s z m).answer ≡ Ok n → IsPrinted s z m n
 unfolding print printing load
 is_printed s z m n a = go (printing s z m start) refl a
   where
-    go : (o : Result (List Declaration)) → printing s z m start ≡ o → (print_outcome s z m o).answer ≡ Printed.Text n → IsPrinted s z m n
+    go : (o : Result (List Declaration)) → printing s z m start ≡ o → (print_outcome s z m o).answer ≡ Ok n → IsPrinted s z m n
     go (refused x) e f = absurd (let i : ◌≡◌ {A = ℕ} 0 1 = cc in omega arith)
     go (done ds q) e f =
         after_elim (loading s z start) _ ds q e (λ es p g e₁.
@@ -87,7 +88,7 @@ is_printed s z m n a = go (printing s z m start) refl a
         }))
 
 -- A call of `print` that prints leaves the tables as a call of `load` does, which accepts.
-pub print_loads : (s : List ℕ) (before : Tables) (buffer : List ℕ) (n : ℕ) (after : Tables) (text : List ℕ) → Prints s before buffer (Printed.Text n) after text
+pub print_loads : (s : List ℕ) (before : Tables) (buffer : List ℕ) (n : ℕ) (after : Tables) (text : List ℕ) → Prints s before buffer (Ok n) after text
     → let a = (load s (lengths before)).answer in Loads s before a after × Accepts (leaves a after)
 unfolding load
 print_loads s before buffer n after text e =
@@ -100,11 +101,11 @@ print_loads s before buffer n after text e =
 
 -- A source that is loaded is printed where the buffer is as long as its text.
 printed_as : (s : List ℕ) (z : Lengths) (m : ℕ) (ds : List Declaration) (q : Position) → loading s z start ≡ done ds q
-    → (length (text_of s ds) ≤ m → (print s z m).answer ≡ Printed.Text (length (text_of s ds))) × (m < length (text_of s ds) → (print s z m).answer ≡ Printed.Refused (nowhere 14))
+    → (length (text_of s ds) ≤ m → (print s z m).answer ≡ Ok (length (text_of s ds))) × (m < length (text_of s ds) → (print s z m).answer ≡ Err (nowhere Class.TextShort))
 unfolding print printing
 printed_as s z m ds q e =
-    let answers : (b : Bool) → leb (length (text_of s ds)) m ≡ b → (print s z m).answer ≡ (print_outcome s z m (after (require b (nowhere 14) q) (λ _. pure ds))).answer =
-    λ b h. ap (λ (o : Result (List Declaration)). (print_outcome s z m o).answer) (after_go _ _ ds q _ e (ap (λ (x : Bool). after (require x (nowhere 14) q) (λ _. pure ds)) h)) in
+    let answers : (b : Bool) → leb (length (text_of s ds)) m ≡ b → (print s z m).answer ≡ (print_outcome s z m (after (require b (nowhere Class.TextShort) q) (λ _. pure ds))).answer =
+    λ b h. ap (λ (o : Result (List Declaration)). (print_outcome s z m o).answer) (after_go _ _ ds q _ e (ap (λ (x : Bool). after (require x (nowhere Class.TextShort) q) (λ _. pure ds)) h)) in
     (λ h. answers true (le-leb (length (text_of s ds)) m h), λ h. answers false (lt-leb (length (text_of s ds)) m h))
 
 -- What a call of `load` that accepts has done.
@@ -142,7 +143,7 @@ prints_loaded s before h =
 
 -- Any call that loads the source, any that prints it, and any that reads what was printed.
 pub any_round_trip : (s : List ℕ) (before₁ : Tables) (a : Answer) (after₁ : Tables) → Loads s before₁ a after₁ → Accepts (leaves a after₁)
-    → (before₂ : Tables) (buffer : List ℕ) (n : ℕ) (after₂ : Tables) (text : List ℕ) → Prints s before₂ buffer (Printed.Text n) after₂ text
+    → (before₂ : Tables) (buffer : List ℕ) (n : ℕ) (after₂ : Tables) (text : List ℕ) → Prints s before₂ buffer (Ok n) after₂ text
     → (lent : Tables) (b : Answer) (left : Tables) → Roomy (row_count a) (declaration_count a) lent → ReadsCore (take n text) lent b left ⊎ ReadsCanonical (take n text) lent b left
     → Accepts (leaves b left) × SameText s (leaves a after₁) (take n text) (leaves b left)
 any_round_trip s before₁ a after₁ l h before₂ buffer n after₂ text e lent b left r f =

@@ -1,4 +1,5 @@
 -- What is printed for an accepted source can be read back.
+use Rattle.token.specs.declared.Class.{Class}
 use mathlib.Core.Path.{◌≡◌, refl, sym, ap, ◌∙◌, subst}
 use mathlib.Core.List.{List, [], ◌∷◌, ◌++◌, map}
 use mathlib.Core.Option.{Option, none, some}
@@ -40,8 +41,8 @@ fresh {P} s g d ds e k = go (find (declared_name s d) g) (first_unknown (resolve
   where
     go : (a : Option ℕ) (b : Option Label) → find (declared_name s d) g ≡ a → first_unknown (resolve_declaration s g d) ≡ b
         → ◌≡◌ {A = Option RefusedName} (elim a as (λ _. Option RefusedName) [
-          | some i ↦ some (refused_name 4 d.start d.length)
-          | none ↦ elim b as (λ _. Option RefusedName) [ some u ↦ some (refused_name 5 u.start u.length) | none ↦ first_refused s (g ++ (declared_name s d ∷ [])) ds ]
+          | some i ↦ some (refused_name Class.DuplicateName d.start d.length)
+          | none ↦ elim b as (λ _. Option RefusedName) [ some u ↦ some (refused_name Class.UnknownName u.start u.length) | none ↦ first_refused s (g ++ (declared_name s d ∷ [])) ds ]
         ]) none → P
     go (some i) b p q f = none_some (sym f)
     go none (some u) p q f = none_some (sym f)

@@ -1,4 +1,5 @@
 -- Each string that is read has the one spelling that is written for it.
+use Rattle.std.specs.Prelude.{Ok}
 use mathlib.Core.Path.{◌≡◌, refl, sym, ap, ◌∙◌, subst}
 use mathlib.Core.List.{List, [], ◌∷◌, ◌++◌}
 use mathlib.Core.Bool.{Bool, true, false, not, ◌||◌, ◌&&◌, cond, and-eq-true_iff, false≢true}
@@ -9,11 +10,9 @@ use lib.Dec.{leb, ltb, eqb}
 use borrow.Author.Tests.{eqb-true, ne_eqb, leb-false}
 use lib.ListN.{length, drop}
 use lib.Seq.{drop-drop}
-use Rattle.token.specs.Token.{within, layout_byte, malformed, token}
+use Rattle.token.specs.Token.{within, layout_byte, malformed, token, Lexed}
 use Rattle.token.specs.declared.TokenKind.{TokenKind}
 use Rattle.token.specs.declared.Token.{Token}
-use Rattle.token.specs.declared.Lexed.{Lexed}
-use Rattle.token.specs.declared.Lexed.TheVariants.{Got}
 use Rattle.core_token.specs.declared.CoreClass.{CoreClass}
 use Rattle.core_token.specs.declared.StringClass.{StringClass}
 use Rattle.core_token.specs.declared.StringClass.TheVariants.{Quote as InQuote, Backslash, Control, Lead, Direct}
@@ -61,10 +60,10 @@ record Closed (c : Bool) (start at : ℕ) (l : List ℕ) (p : Token) : Type 0 wh
   starts : p.start ≡ start
   ends : p.end ≡ at + length bytes + 1
 
-no_got : {P : Type 0} {at : ℕ} {p : Token} → malformed at ≡ Got p → P
+no_got : {P : Type 0} {at : ℕ} {p : Token} → malformed at ≡ Ok p → P
 no_got e = absurd (let z : ◌≡◌ {A = ℕ} 0 1 = cc in omega arith)
 
-got_inj : {p q : Token} → Got p ≡ Got q → p ≡ q
+got_inj : {p q : Token} → ◌≡◌ {A = Lexed} (Ok p) (Ok q) → p ≡ q
 got_inj e = cc
 
 -- One byte more.
@@ -83,13 +82,13 @@ pending nothing = false
 pending (backslash e) = true
 pending (lead e) = false
 
-closes : (x : Bool) (start at : ℕ) (l : List ℕ) (p : Token) → cond x (malformed start) (token TokenKind.String start (at + 1)) ≡ Got p → Closed false start at (34 ∷ l) p
+closes : (x : Bool) (start at : ℕ) (l : List ℕ) (p : Token) → cond x (malformed start) (token TokenKind.String start (at + 1)) ≡ Ok p → Closed false start at (34 ∷ l) p
 closes true start at l p e = no_got e
 closes false start at l p e =
     let q = got_inj e in
     record { bytes = []; rest = l; are = refl; spelling = refl; starts = ap (λ (x : Token). x.start) (sym q); ends = ap (λ (x : Token). x.end) (sym q) ∙ ap (λ (n : ℕ). n + 1) (sym (add-zero at)) }
 
-string_closed : (l : List ℕ) (o : Open) (start at : ℕ) (p : Token) → string_from start o at l ≡ Got p → Closed (pending o) start at l p
+string_closed : (l : List ℕ) (o : Open) (start at : ℕ) (p : Token) → string_from start o at l ≡ Ok p → Closed (pending o) start at l p
 unfolding string_from string_class
 string_closed [] nothing start at p e = no_got e
 string_closed [] (backslash x) start at p e = no_got e
@@ -108,10 +107,10 @@ string_closed (b ∷ l) nothing start at p e =
           | Control ↦ malformed at
           | Lead ↦ string_from start (lead at) (at + 1) l
           | Direct ↦ string_from start nothing (at + 1) l
-        ] ≡ Got p
-        → (string_from start (backslash at) (at + 1) l ≡ Got p → Closed true start (at + 1) l p)
-        → (string_from start (lead at) (at + 1) l ≡ Got p → Closed false start (at + 1) l p)
-        → (string_from start nothing (at + 1) l ≡ Got p → Closed false start (at + 1) l p)
+        ] ≡ Ok p
+        → (string_from start (backslash at) (at + 1) l ≡ Ok p → Closed true start (at + 1) l p)
+        → (string_from start (lead at) (at + 1) l ≡ Ok p → Closed false start (at + 1) l p)
+        → (string_from start nothing (at + 1) l ≡ Ok p → Closed false start (at + 1) l p)
         → Closed false start at (b ∷ l) p
     go true y u v f g e i j k = subst (λ (n : ℕ). Closed false start at (n ∷ l) p) (sym (eqb-true b 34 f)) (closes (eqb at (start + 1)) start at l p e)
     go false true u v f g e i j k = more b false true start at l p (λ w h. ap (λ (x : Bool). cond x (raw true w) (not (eqb b 34) && raw false w)) g ∙ h) (i e)
@@ -120,14 +119,14 @@ string_closed (b ∷ l) nothing start at p e =
     go false false false false f g e i j k = more b false false start at l p (direct f g) (k e)
 string_closed (b ∷ l) (backslash x) start at p e = go (eqb b 34 || eqb b 92) refl e (string_closed l nothing start (at + 1) p)
   where
-    go : (y : Bool) → eqb b 34 || eqb b 92 ≡ y → elim y as (λ _. Lexed) [ true ↦ string_from start nothing (at + 1) l | false ↦ malformed x ] ≡ Got p
-        → (string_from start nothing (at + 1) l ≡ Got p → Closed false start (at + 1) l p) → Closed true start at (b ∷ l) p
+    go : (y : Bool) → eqb b 34 || eqb b 92 ≡ y → elim y as (λ _. Lexed) [ true ↦ string_from start nothing (at + 1) l | false ↦ malformed x ] ≡ Ok p
+        → (string_from start nothing (at + 1) l ≡ Ok p → Closed false start (at + 1) l p) → Closed true start at (b ∷ l) p
     go true f e k = more b true false start at l p (λ w h. ap (λ (z : Bool). z && raw false w) f ∙ h) (k e)
     go false f e k = no_got e
 string_closed (b ∷ l) (lead x) start at p e = go (leb b 0x9F) refl e (string_closed l nothing start (at + 1) p)
   where
-    go : (y : Bool) → leb b 0x9F ≡ y → elim y as (λ _. Lexed) [ true ↦ malformed x | false ↦ string_from start nothing (at + 1) l ] ≡ Got p
-        → (string_from start nothing (at + 1) l ≡ Got p → Closed false start (at + 1) l p) → Closed false start at (b ∷ l) p
+    go : (y : Bool) → leb b 0x9F ≡ y → elim y as (λ _. Lexed) [ true ↦ malformed x | false ↦ string_from start nothing (at + 1) l ] ≡ Ok p
+        → (string_from start nothing (at + 1) l ≡ Ok p → Closed false start (at + 1) l p) → Closed false start at (b ∷ l) p
     go true f e k = no_got e
     go false f e k =
         let h = leb-false b 159 f in
@@ -135,7 +134,7 @@ string_closed (b ∷ l) (lead x) start at p e = go (leb b 0x9F) refl e (string_c
         (λ w z. ap (λ (x : Bool). cond x (raw true w) (not (eqb b 34) && raw false w)) (ne_eqb b 92 (λ q. omega arith)) ∙ ap (λ (x : Bool). not x && raw false w) (ne_eqb b 34 (λ q. omega arith)) ∙ z) (k e)
 
 -- Of the other tokens none is a string.
-got_kind : {P : Type 0} (k : TokenKind) (a e : ℕ) (p : Token) → p.kind ≡ TokenKind.String → (k ≡ TokenKind.String → ⊥) → token k a e ≡ Got p → P
+got_kind : {P : Type 0} (k : TokenKind) (a e : ℕ) (p : Token) → p.kind ≡ TokenKind.String → (k ≡ TokenKind.String → ⊥) → token k a e ≡ Ok p → P
 got_kind k a e p h n f = absurd (n (ap (λ (x : Token). x.kind) (got_inj f) ∙ h))
 
 no_open : TokenKind.LParen ≡ TokenKind.String → ⊥
@@ -150,11 +149,11 @@ no_atom e = let z : ◌≡◌ {A = ℕ} 0 1 = cc in omega arith
 no_end : TokenKind.Eof ≡ TokenKind.String → ⊥
 no_end e = let z : ◌≡◌ {A = ℕ} 0 1 = cc in omega arith
 
-atom_kind : {P : Type 0} (l : List ℕ) (start at : ℕ) (p : Token) → p.kind ≡ TokenKind.String → core_atom_from start at l ≡ Got p → P
+atom_kind : {P : Type 0} (l : List ℕ) (start at : ℕ) (p : Token) → p.kind ≡ TokenKind.String → core_atom_from start at l ≡ Ok p → P
 unfolding core_atom_from
 atom_kind [] start at p k = got_kind TokenKind.Atom start at p k no_atom
 atom_kind {P} (b ∷ l) start at p k =
-    atom_by (λ x. x ≡ Got p → P) (core_class b) start at _ (got_kind TokenKind.Atom start at p k no_atom) (λ e. no_got e) (atom_kind l start (at + 1) p k)
+    atom_by (λ x. x ≡ Ok p → P) (core_class b) start at _ (got_kind TokenKind.Atom start at p k no_atom) (λ e. no_got e) (atom_kind l start (at + 1) p k)
 
 -- A byte that opens a string is a quote.
 quote_fourth : (l o c q a : Bool) → cond l CoreClass.Layout (cond o CoreClass.LParen (cond c CoreClass.RParen (cond q CoreClass.Quote (cond a CoreClass.Atom CoreClass.Refused)))) ≡ CoreClass.Quote → q ≡ true
@@ -176,11 +175,11 @@ record Stands (at : ℕ) (l : List ℕ) (p : Token) : Type 0 where
   here : drop before l ≡ 34 ∷ rest
   closed_there : Closed false (at + before) (at + before + 1) rest p
 
-token_stands : (l : List ℕ) (at : ℕ) (p : Token) → p.kind ≡ TokenKind.String → core_token_from at l ≡ Got p → Stands at l p
+token_stands : (l : List ℕ) (at : ℕ) (p : Token) → p.kind ≡ TokenKind.String → core_token_from at l ≡ Ok p → Stands at l p
 unfolding core_token_from
 token_stands [] at p k = got_kind TokenKind.Eof at at p k no_end
 token_stands (b ∷ l) at p k =
-    here_by (λ x. x ≡ Got p → Stands at (b ∷ l) p) (core_class b) at _ _ _ (λ e. further (token_stands l (at + 1) p k e))
+    here_by (λ x. x ≡ Ok p → Stands at (b ∷ l) p) (core_class b) at _ _ _ (λ e. further (token_stands l (at + 1) p k e))
     (λ _. got_kind TokenKind.LParen at (at + 1) p k no_open) (got_kind TokenKind.RParen at (at + 1) p k no_close)
     (λ q e. here (quote_byte b q) (string_closed l nothing at (at + 1) p e)) (atom_kind l at (at + 1) p k) (λ e. no_got e)
   where
@@ -200,7 +199,7 @@ token_stands (b ∷ l) at p k =
       closed_there = subst (λ (n : ℕ). Closed false n (n + 1) l p) (sym (add-zero at)) c;
     }
 
-one_spelling_token : (t : List ℕ) (at : ℕ) (p : Token) → next_core_token t at ≡ Got p → p.kind ≡ TokenKind.String
+one_spelling_token : (t : List ℕ) (at : ℕ) (p : Token) → next_core_token t at ≡ Ok p → p.kind ≡ TokenKind.String
     → let x = part t (p.start + 1) (p.end - 1 - (p.start + 1)) in written (says x) ≡ x
 unfolding next_core_token
 one_spelling_token t at p e k =

@@ -1,4 +1,5 @@
 -- What a step of the reader gives on the bytes that are printed for it.
+use Rattle.std.specs.Prelude.{Ok}
 use mathlib.Core.Path.{◌≡◌, refl, ap, ◌∙◌}
 use mathlib.Core.List.{List, [], ◌∷◌, ◌++◌}
 use mathlib.Core.Bool.{true}
@@ -7,7 +8,6 @@ use native.Mathlib.Omega.{arith}
 use lib.ListN.{length, drop}
 use Rattle.token.specs.declared.TokenKind.{TokenKind}
 use Rattle.token.specs.declared.Token.{Token}
-use Rattle.token.specs.declared.Lexed.TheVariants.{Got}
 use Rattle.core_token.specs.CoreToken.{core_token_from, next_core_token}
 use Rattle.words.specs.Words.{numeral}
 use Rattle.surface.specs.Text.{text}
@@ -26,20 +26,20 @@ abbrev pub the_token : TokenKind → ℕ → ℕ → Token
 the_token k a b = record { kind = k; start = a; end = b }
 
 module _ (s : List ℕ) where
-  next_at : (at : ℕ) (l : List ℕ) (t : Token) → drop at s ≡ l → core_token_from at l ≡ Got t → next_core_token s at ≡ Got t
+  next_at : (at : ℕ) (l : List ℕ) (t : Token) → drop at s ≡ l → core_token_from at l ≡ Ok t → next_core_token s at ≡ Ok t
   unfolding next_core_token
   next_at at l t e f = ap (core_token_from at) e ∙ f
 
-  pub open_next : (at : ℕ) (l : List ℕ) → drop at s ≡ 32 ∷ 40 ∷ l → next_core_token s at ≡ Got (the_token TokenKind.LParen (at + 1) (at + 1 + 1))
+  pub open_next : (at : ℕ) (l : List ℕ) → drop at s ≡ 32 ∷ 40 ∷ l → next_core_token s at ≡ Ok (the_token TokenKind.LParen (at + 1) (at + 1 + 1))
   open_next at l e = next_at at (32 ∷ 40 ∷ l) _ e (space_token at (40 ∷ l) ∙ front.open_token (at + 1) l)
 
-  pub close_next : (at : ℕ) (l : List ℕ) → drop at s ≡ 41 ∷ l → next_core_token s at ≡ Got (the_token TokenKind.RParen at (at + 1))
+  pub close_next : (at : ℕ) (l : List ℕ) → drop at s ≡ 41 ∷ l → next_core_token s at ≡ Ok (the_token TokenKind.RParen at (at + 1))
   close_next at l e = next_at at (41 ∷ l) _ e (front.close_token at l)
 
-  word_next : (at : ℕ) (w l : List ℕ) → drop at s ≡ w ++ l → Wordlike w → Stop l → next_core_token s at ≡ Got (the_token TokenKind.Atom at (at + length w))
+  word_next : (at : ℕ) (w l : List ℕ) → drop at s ≡ w ++ l → Wordlike w → Stop l → next_core_token s at ≡ Ok (the_token TokenKind.Atom at (at + length w))
   word_next at w l e h k = next_at at (w ++ l) _ e (front.word_token w l at h k)
 
-  pub spaced_word_next : (at : ℕ) (w l : List ℕ) → drop at s ≡ 32 ∷ (w ++ l) → Wordlike w → Stop l → next_core_token s at ≡ Got (the_token TokenKind.Atom (at + 1) (at + 1 + length w))
+  pub spaced_word_next : (at : ℕ) (w l : List ℕ) → drop at s ≡ 32 ∷ (w ++ l) → Wordlike w → Stop l → next_core_token s at ≡ Ok (the_token TokenKind.Atom (at + 1) (at + 1 + length w))
   spaced_word_next at w l e h k = next_at at (32 ∷ (w ++ l)) _ e (space_token at (w ++ l) ∙ front.word_token w l (at + 1) h k)
 
   pub closes : (p : Position) (l : List ℕ) → drop p.offset s ≡ 41 ∷ l

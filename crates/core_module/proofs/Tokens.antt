@@ -9,9 +9,8 @@ use lib.Dec.{leb, ltb, eqb}
 use borrow.Author.Tests.{ne_eqb, leb-true, ltb-true}
 use lib.ListN.{length, take, drop}
 use lib.Seq.{drop-drop, drop-append_seam, take-append_seam}
-use Rattle.token.specs.Token.{within, layout_byte, malformed, token}
+use Rattle.token.specs.Token.{within, layout_byte, malformed, token, Lexed}
 use Rattle.token.specs.declared.TokenKind.{TokenKind}
-use Rattle.token.specs.declared.Lexed.{Lexed}
 use Rattle.core_token.specs.declared.CoreClass.{CoreClass}
 use Rattle.core_token.specs.declared.CoreClass.TheVariants.{Layout, LParen, RParen, Quote, Atom, Refused}
 use Rattle.core_token.specs.declared.StringClass.{StringClass}

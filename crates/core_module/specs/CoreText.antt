@@ -1,5 +1,6 @@
 -- Document 02, Req 03: the answer and the tables that reading a core text leaves, from the text and the tables' lengths.
-use Rattle.std.specs.Prelude.{◌≡◌, List, [], ◌∷◌, ◌++◌, map, Bool, true, false, not, cond, ℕ, ◌/◌, leb, eqb, length}
+use Rattle.token.specs.declared.Class.{Class}
+use Rattle.std.specs.Prelude.{◌≡◌, List, [], ◌∷◌, ◌++◌, map, Bool, true, false, not, ℕ, ◌/◌, leb, eqb, length, Err}
 use Rattle.std.proofs.Math.Option.{none, some}
 use Rattle.words.specs.Words.{same_bytes}
 use Rattle.utf8.specs.Utf8.{valid_length, byte_order_mark}
@@ -9,18 +10,19 @@ use Rattle.terms.specs.Tree.{Cell, relabel}
 use Rattle.terms.specs.Label.{Name, Label, Declaration, trees, named, declared_name}
 use Rattle.terms.specs.Resolution.{find}
 use Rattle.terms.specs.Rows.{row_holding, rows_by, read_records}
-use Rattle.surface.specs.declared.Answer.{Answer}
-use Rattle.surface.specs.declared.Answer.TheVariants.{Loaded, Refused}
+use Rattle.surface.specs.Answer.{Answer, loaded}
 use Rattle.surface.specs.Reader.{start, Result, done, refused, Reader, ◌>>=◌, ◌>>◌, pure, require, nowhere, at_offset}
 use Rattle.surface.specs.Tables.{Lengths, Tables, lengths, holding, blank, leaves}
 use Rattle.surface.specs.Loading.{frame_limit, Outcome}
 use Rattle.core_text.specs.TextReading.{read_text}
 use Rattle.printing.specs.Printing.{Spelled, print_module}
 
--- The numbers that are told: "13: core text that the Rust refuses for a class other than version or exhausted memory" where reading says 1;
+-- The classes that are told: "13: core text that the Rust refuses for a class other than version or exhausted memory" where reading says 1;
 -- "10 is given when a completed term finds the table full" where it says 8.
-abbrev pub told_class : ℕ → ℕ
-told_class c = cond (eqb c 1) 13 (cond (eqb c 8) 10 c)
+abbrev pub told_class : Class → Class
+told_class Class.Malformed = Class.CoreText
+told_class Class.SurfaceFull = Class.CoreShort
+told_class c = c
 
 abbrev pub told : {A : Type 0} → Result A → Result A
 told (done a p) = done a p
@@ -37,12 +39,12 @@ repeated t earlier (d ∷ l) = elim (find (declared_name t d) earlier) [ some i 
 -- "11 work area under 16,384 words", "6 for a core text over 4,294,967,295 bytes".
 unfoldable pub reading_text : List ℕ → Lengths → Reader (List Declaration)
 reading_text t z = do
-  require (leb 16384 z.work) (nowhere 11)
-  require (leb (length t) 4294967295) (nowhere 6)
-  require (eqb (valid_length t) (length t)) (at_offset 13 (valid_length t))
-  require (not (byte_order_mark t)) (at_offset 13 0)
+  require (leb 16384 z.work) (nowhere Class.WorkShort)
+  require (leb (length t) 4294967295) (nowhere Class.LongSource)
+  require (eqb (valid_length t) (length t)) (at_offset Class.CoreText (valid_length t))
+  require (not (byte_order_mark t)) (at_offset Class.CoreText 0)
   ds ← λ p. told (read_text t (z.core / 8) (z.declarations / 5) frame_limit p)
-  require (not (repeated t [] ds)) (at_offset 13 0)
+  require (not (repeated t [] ds)) (at_offset Class.CoreText 0)
   pure ds
 
 -- What is read, spelled: its own bytes.
@@ -53,7 +55,7 @@ spelled_text t d = record { kind = d.kind; name = declared_name t d; terms = rel
 unfoldable pub reading_canonical : List ℕ → Lengths → Reader (List Declaration)
 reading_canonical t z = do
   ds ← reading_text t z
-  require (same_bytes t (print_module (map (spelled_text t) ds))) (nowhere 13)
+  require (same_bytes t (print_module (map (spelled_text t) ds))) (nowhere Class.CoreText)
   pure ds
 
 -- "Var, global and universe rows there hold their numeral's start and length, the eighth word the term's offset."
@@ -65,8 +67,8 @@ text_rows = rows_by text_row
 
 -- What a call leaves: its answer, and the tables, which are all 0 after a refusal. No surface table is lent.
 abbrev pub text_outcome : Lengths → Result (List Declaration) → Outcome
-text_outcome z (refused r) = leaves (Refused r) (blank z)
-text_outcome z (done ds p) = leaves (Loaded p.rows (length ds)) (holding z [] (text_rows 0 ds) (read_records 0 ds))
+text_outcome z (refused r) = leaves (Err r) (blank z)
+text_outcome z (done ds p) = leaves (loaded p.rows (length ds)) (holding z [] (text_rows 0 ds) (read_records 0 ds))
 
 unfoldable pub read_core : List ℕ → Lengths → Outcome
 read_core t z = text_outcome z (reading_text t z start)

@@ -1,16 +1,16 @@
 -- The headline statements of document 02's Req 03, as types; core_module/proofs/Statements.antt has their proofs.
-use Rattle.std.specs.Prelude.{◌≡◌, ◌↔◌, ◌⊎◌, List, [], ◌∷◌, map, false, ℕ, ◌-◌, ◌/◌, ◌≤◌, ◌<◌, length, get_or, take}
+use Rattle.token.specs.declared.Class.{Class}
+use Rattle.std.specs.Prelude.{◌≡◌, ◌↔◌, ◌⊎◌, List, [], ◌∷◌, map, false, ℕ, ◌-◌, ◌/◌, ◌≤◌, ◌<◌, length, get_or, take, Err, Ok}
 use Rattle.std.proofs.Math.Option.{some}
 use Rattle.token.specs.declared.Token.{Token}
 use Rattle.token.specs.declared.Refusal.{Refusal}
-use Rattle.token.specs.declared.Lexed.TheVariants.{Got}
 use Rattle.core_token.specs.CoreToken.{next_core_token}
 use Rattle.terms.specs.Forms.{Shape, alone, with_name, with_numeral, binding, plain, Form, form_of_kind}
 use Rattle.terms.specs.TextForms.{text_forms}
 use Rattle.terms.specs.Label.{Declaration}
 use Rattle.terms.specs.Rows.{first_rows}
 use Rattle.terms.specs.Offsets.{eighth_word}
-use Rattle.surface.specs.declared.Answer.{Answer}
+use Rattle.surface.specs.Answer.{Answer}
 use Rattle.surface.specs.Text.{text}
 use Rattle.surface.specs.Grammar.{Opens, Word, Numeral}
 use Rattle.surface.specs.Reader.{Position, start, done, nowhere, at_offset}
@@ -19,7 +19,7 @@ use Rattle.surface.specs.Loading.{load, Loads}
 use Rattle.surface.specs.SameCore.{row_count, declaration_count, Accepts}
 use Rattle.least_storage.specs.Statements.{is_full}
 use Rattle.core_text.specs.TextReading.{string}
-use Rattle.printing.specs.declared.Printed.{Printed}
+use Rattle.printing.specs.Answer.{Printed}
 use Rattle.printing.specs.Printing.{print_module}
 use Rattle.printing.specs.PrintCall.{Prints}
 use Rattle.core_module.specs.CoreText.{spelled_text, reading_text, read_core, read_canonical, ReadsCore, ReadsCanonical}
@@ -40,7 +40,7 @@ pub record Roomy (rows declarations : ℕ) (t : Tables) : Type 0 where
 abbrev pub RoundTrip : Type 0
 RoundTrip =
     (s : List ℕ) (before₁ : Tables) (a : Answer) (after₁ : Tables) → Loads s before₁ a after₁ → Accepts (leaves a after₁)
-    → (before₂ : Tables) (buffer : List ℕ) (n : ℕ) (after₂ : Tables) (text : List ℕ) → Prints s before₂ buffer (Printed.Text n) after₂ text
+    → (before₂ : Tables) (buffer : List ℕ) (n : ℕ) (after₂ : Tables) (text : List ℕ) → Prints s before₂ buffer (Ok n) after₂ text
     → (lent : Tables) (b : Answer) (left : Tables) → Roomy (row_count a) (declaration_count a) lent
     → ReadsCore (take n text) lent b left ⊎ ReadsCanonical (take n text) lent b left
     → Accepts (leaves b left) × SameText s (leaves a after₁) (take n text) (leaves b left)
@@ -52,7 +52,7 @@ PrintsLoaded =
     (s : List ℕ) (before : Tables) → Accepts (load s (lengths before))
     → (n : ℕ) × (n ≤ 4294967295)
     × ((buffer : List ℕ) (a : Printed) (after : Tables) (text : List ℕ) → Prints s before buffer a after text
-    → (n ≤ length buffer → a ≡ Printed.Text n) × (length buffer < n → a ≡ Printed.Refused (nowhere 14)))
+    → (n ≤ length buffer → a ≡ Ok n) × (length buffer < n → a ≡ Err (nowhere Class.TextShort)))
 
 -- A text that reading takes, and that is what is printed for what is read.
 pub record OwnPrint (t : List ℕ) (z : Lengths) : Type 0 where
@@ -67,49 +67,49 @@ abbrev pub CanonicalExactly : Type 0
 CanonicalExactly =
     (t : List ℕ) (before : Tables) (a : Answer) (after : Tables) → ReadsCanonical t before a after
     → (Accepts (leaves a after) ↔ OwnPrint t (lengths before)) × (Accepts (leaves a after) → ReadsCore t before a after)
-    × ((r : Refusal) → a ≡ Answer.Refused r → ReadsCore t before a after ⊎ ((r ≡ nowhere 13) × Accepts (read_core t (lengths before))))
+    × ((r : Refusal) → a ≡ Err r → ReadsCore t before a after ⊎ ((r ≡ nowhere Class.CoreText) × Accepts (read_core t (lengths before))))
 
 -- The refusals that `read_core` gives for a text of n bytes: "2, 7, 9, 10 and 11 serve here too, and 6 for a core text over 4,294,967,295
 -- bytes", nowhere; "13: core text that the Rust refuses for a class other than version or exhausted memory, with its offset".
 pub data TextRefusal (n : ℕ) : Refusal → Type 0 where
-  version : TextRefusal n (nowhere 2)
-  long_text : TextRefusal n (nowhere 6)
-  many_frames : TextRefusal n (nowhere 7)
-  full_list : TextRefusal n (nowhere 9)
-  full_table : TextRefusal n (nowhere 10)
-  short_work : TextRefusal n (nowhere 11)
-  malformed : (p : ℕ) → p ≤ n → TextRefusal n (at_offset 13 p)
+  version : TextRefusal n (nowhere Class.Version)
+  long_text : TextRefusal n (nowhere Class.LongSource)
+  many_frames : TextRefusal n (nowhere Class.Frames)
+  full_list : TextRefusal n (nowhere Class.DeclarationsFull)
+  full_table : TextRefusal n (nowhere Class.CoreShort)
+  short_work : TextRefusal n (nowhere Class.WorkShort)
+  malformed : (p : ℕ) → p ≤ n → TextRefusal n (at_offset Class.CoreText p)
 
 -- REQ 03, THE REFUSALS, about what calls of `read_core` and `read_canonical` leave: there are no others, but for 13 nowhere,
 -- from `read_canonical` alone; and after a refusal every lent table is 0.
 abbrev pub ReadingRefusals : Type 0
 ReadingRefusals =
     (t : List ℕ) (before : Tables) (r : Refusal) (after : Tables)
-    → (ReadsCore t before (Answer.Refused r) after → TextRefusal (length t) r × (after ≡ blank (lengths before)))
-    × (ReadsCanonical t before (Answer.Refused r) after → (TextRefusal (length t) r ⊎ (r ≡ nowhere 13)) × (after ≡ blank (lengths before)))
+    → (ReadsCore t before (Err r) after → TextRefusal (length t) r × (after ≡ blank (lengths before)))
+    × (ReadsCanonical t before (Err r) after → (TextRefusal (length t) r ⊎ (r ≡ nowhere Class.CoreText)) × (after ≡ blank (lengths before)))
 
 -- REQ 08, of a core text as of a source: a term has at least 3 bytes and a declaration at least 17, so with tables for so many bytes neither
 -- call answers 9 or 10, of whatever text.
 abbrev pub TextNeverFull : Type 0
 TextNeverFull =
     (t : List ℕ) (z : Lengths) → length t / 3 ≤ z.core / 8 → length t / 17 ≤ z.declarations / 5
-    → ((r : Refusal) → (read_core t z).answer ≡ Answer.Refused r → is_full r.class ≡ false)
-    × ((r : Refusal) → (read_canonical t z).answer ≡ Answer.Refused r → is_full r.class ≡ false)
+    → ((r : Refusal) → (read_core t z).answer ≡ Err r → is_full r.class ≡ false)
+    × ((r : Refusal) → (read_canonical t z).answer ≡ Err r → is_full r.class ≡ false)
 
 -- `(` and the word of the form f, from an offset on.
 pub record Tagged (t : List ℕ) (at : ℕ) (f : Form) (o w : Token) : Type 0 where
-  pub first : next_core_token t at ≡ Got o
+  pub first : next_core_token t at ≡ Ok o
   pub here : o.start ≡ at
   pub opens : Opens o
-  pub second : next_core_token t o.end ≡ Got w
+  pub second : next_core_token t o.end ≡ Ok w
   pub tag : Word t f.word w
 
 -- A term of the form f begins at an offset: with its word, or with `(` and its word; then comes its numeral, of which a start and a length are
 -- held. No form of core text has a name.
 abbrev pub BeginsAs : List ℕ → ℕ → Form → Shape → ℕ → ℕ → Type 0
-BeginsAs t at f alone start n = (w : Token) × (next_core_token t at ≡ Got w) × (w.start ≡ at) × Word t f.word w
+BeginsAs t at f alone start n = (w : Token) × (next_core_token t at ≡ Ok w) × (w.start ≡ at) × Word t f.word w
 BeginsAs t at f with_name start n = ⊥
-BeginsAs t at f with_numeral start n = (o w x : Token) × Tagged t at f o w × (next_core_token t w.end ≡ Got x) × Numeral t x × (start ≡ x.start) × (n ≡ x.end - x.start)
+BeginsAs t at f with_numeral start n = (o w x : Token) × Tagged t at f o w × (next_core_token t w.end ≡ Ok x) × Numeral t x × (start ≡ x.start) × (n ≡ x.end - x.start)
 BeginsAs t at f binding start n = ⊥
 BeginsAs t at f plain start n = (o w : Token) × Tagged t at f o w
 

@@ -6,7 +6,8 @@ use native.Mathlib.Omega.{arith}
 use native.Mathlib.Numerals.{add-one}
 use native.Mathlib.Nat.{add-zero}
 use lib.ListN.{length, get_or, take, drop}
-use lib.Seq.{take-nil, drop-drop, drop_at, get_or-take, get_or-drop}
+use Rattle.std.proofs.lemmas.List.{drop-take}
+use lib.Seq.{drop-drop, drop_at, get_or-take, get_or-drop}
 use Rattle.terms.specs.Tree.{next, roots}
 use Rattle.terms.specs.Label.{Name, part, Declaration, trees, declared_name}
 use Rattle.terms.specs.Rows.{joined, read_record, read_records}
@@ -18,12 +19,6 @@ use Rattle.scope.specs.Index.{name_at}
 abbrev pub HasRecords : List ℕ → ℕ → ℕ → List Declaration → Type 0
 HasRecords t d k ds = take (length ds * 5) (drop (d * 5) t) ≡ joined (read_records k ds)
 
-drop_take : (n m k : ℕ) (l : List ℕ) → k ≡ n + m → drop n (take k l) ≡ take m (drop n l)
-drop_take zero m k l e = ap (λ (i : ℕ). take i l) (let z : k ≡ m = omega arith in z)
-drop_take (suc n) m zero l e = absurd (omega arith)
-drop_take (suc n) m (suc k) [] e = sym (take-nil m)
-drop_take (suc n) m (suc k) (x ∷ l) e = drop_take n m k l (omega arith)
-
 module _ (t : List ℕ) (d k : ℕ) (x : Declaration) (l : List Declaration) (h : HasRecords t d k (x ∷ l)) where
   five : length (read_record k x) ≡ 5
   five = ap (λ (n : ℕ). suc (suc (suc n))) (length_pad 2 (roots k (trees x)))
@@ -33,7 +28,7 @@ module _ (t : List ℕ) (d k : ℕ) (x : Declaration) (l : List Declaration) (h 
       let m = length l * 5 in
       ap (λ (n : ℕ). take m (drop n t)) (let z : (d + 1) * 5 ≡ d * 5 + 5 = omega arith in z)
       ∙ ap (take m) (sym (drop-drop 5 (d * 5) t))
-      ∙ sym (drop_take 5 m (suc (length l) * 5) (drop (d * 5) t) (omega arith))
+      ∙ sym (ap (λ (n : ℕ). drop 5 (take n (drop (d * 5) t))) (let z : suc (length l) * 5 ≡ 5 + m = omega arith in z) ∙ drop-take 5 m (drop (d * 5) t))
       ∙ ap (drop 5) h
       ∙ drop_at (read_record k x) (joined (read_records (next k (trees x)) l)) 5 five
 

@@ -1,10 +1,9 @@
 -- Names used twice: one record, the loop over all, and the declarations that the records are of.
-use Prim.Native.Nat.{ℕ, suc, ◌+◌, ◌-◌, ◌*◌, ◌≤◌, ◌<◌}
+use Prim.Native.Nat.{ℕ, ◌+◌, ◌*◌}
 use mathlib.Core.Path.{◌≡◌, refl, sym, ◌∙◌, ap}
 use mathlib.Core.List.{List, [], ◌∷◌, ◌++◌}
 use mathlib.Core.Option.{Option, none, some}
 use mathlib.Core.Bool.{Bool, true, false, cond}
-use native.Mathlib.Omega.{arith}
 use lib.ListN.{length, take}
 use Rattle.terms.specs.Tree.{next}
 use Rattle.terms.specs.Label.{Name, Declaration, trees}
@@ -15,30 +14,6 @@ use Rattle.scope.specs.Index.{name_at}
 use Rattle.core_module.specs.CoreText.{repeated}
 use Rattle.core_names.specs.inner.Repeats.{is_used, repeats}
 use Rattle.core_names.proofs.Records.{HasRecords, records_behind, record_name, one_more_name}
-
-module _ (s t : List ℕ) (d : ℕ) where
-  pub used : (k : ℕ) → some k ≡ find (name_at s t d) (declared_names s t 0 d) → true ≡ is_used s t d
-  unfolding is_used
-  used k e = rw (is_used, ← e)
-
-  pub unused : none ≡ find (name_at s t d) (declared_names s t 0 d) → false ≡ is_used s t d
-  unfolding is_used
-  unused e = rw (is_used, ← e)
-
-  module _ (count : ℕ) where
-    step : d < count → repeats s t d (count - d) ≡ cond (is_used s t d) true (repeats s t (d + 1) (count - (d + 1)))
-    unfolding repeats
-    step h = ap (repeats s t d) (let z : count - d ≡ suc (count - (d + 1)) = omega arith in z)
-
-    pub repeats_here : d < count → is_used s t d ≡ true → repeats s t d (count - d) ≡ true
-    repeats_here h e = step h ∙ ap (λ (b : Bool). cond b true (repeats s t (d + 1) (count - (d + 1)))) e
-
-    pub repeats_behind : d < count → is_used s t d ≡ false → repeats s t d (count - d) ≡ repeats s t (d + 1) (count - (d + 1))
-    repeats_behind h e = step h ∙ ap (λ (b : Bool). cond b true (repeats s t (d + 1) (count - (d + 1)))) e
-
-    pub repeats_end : count ≤ d → repeats s t d (count - d) ≡ false
-    unfolding repeats
-    repeats_end h = ap (repeats s t d) (let z : count - d ≡ 0 = omega arith in z)
 
 module _ (s t : List ℕ) where
   repeats_from : (ds : List Declaration) (d k : ℕ) → HasRecords t d k ds → repeats s t d (length ds) ≡ repeated s (declared_names s t 0 d) ds

@@ -1,14 +1,15 @@
 -- The head of a core text by its lines is the head token by token.
+use Rattle.token.specs.declared.Class.{Class}
+use Rattle.token.specs.Token.{Lexed}
 use mathlib.Core.Path.{◌≡◌, refl, sym, ◌∙◌}
 use mathlib.Core.Bool.{Bool, ◌&&◌}
 use mathlib.Core.List.{List}
 use Prim.Native.Nat.{ℕ}
 use Rattle.token.specs.declared.Token.{Token}
-use Rattle.token.specs.declared.Lexed.{Lexed}
 use Rattle.words.specs.Words.{ascii, same_bytes}
 use Rattle.core_token.specs.CoreToken.{next_core_token}
 use Rattle.surface.specs.Text.{text}
-use Rattle.surface.specs.Reader.{Position, Result, done, refused, Reader, after, ◌>>=◌, pure, require, nowhere}
+use Rattle.surface.specs.Reader.{Position, Result, done, refused, Reader, after, ◌>>=◌, require, nowhere}
 use Rattle.surface.specs.Reading.{opening, closing, word, natural}
 use Rattle.core_text.specs.TextReading.{string, zero_one, text_head, declarations_line}
 use Rattle.expects.specs.Lines.{tag}
@@ -57,7 +58,7 @@ module _ (s : List ℕ) where
   flat p =
       tagged (ascii "hott-core") _ _ p (λ w q. formatted _ q
       ∙ behind (opening next q) _ _ (λ o q₁. behind (word next s (ascii "format") q₁) _ _ (λ v q₂. behind (natural next s q₂) _ _ (λ a q₃. behind (natural next s q₃) _ _
-      (λ b q₄. behind (closing next q₄) _ _ (λ c q₅. theorised (λ t. require (zero_one s a b && t) (nowhere 2)) q₅))))))
+      (λ b q₄. behind (closing next q₄) _ _ (λ c q₅. theorised (λ t. require (zero_one s a b && t) (nowhere Class.Version)) q₅))))))
 
   pub declarations_tag : (p : Position) → declarations_line s p ≡ tag next s (ascii "declarations") p
   unfolding declarations_line tag

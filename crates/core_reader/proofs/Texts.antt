@@ -1,20 +1,20 @@
 -- A core text: its head, its declarations, and the end.
-use mathlib.Core.Path.{◌≡◌, refl, sym, ◌∙◌, ap}
+use Rattle.token.specs.Token.{Lexed}
+use Rattle.std.specs.Prelude.{Ok, Err}
+use mathlib.Core.Path.{◌≡◌, refl, sym, ◌∙◌, ap, subst}
 use mathlib.Core.List.{List, [], ◌∷◌}
 use Prim.Native.Nat.{ℕ, suc, ◌+◌, ◌/◌, ◌≤◌}
 use native.Mathlib.Omega.{arith}
 use lib.ListN.{length}
 use Rattle.token.specs.declared.Token.{Token}
 use Rattle.token.specs.declared.Refusal.{Refusal}
-use Rattle.token.specs.declared.Lexed.{Lexed}
-use Rattle.token.specs.declared.Lexed.TheVariants.{Got, Refused}
 use Rattle.words.specs.Words.{ascii}
 use Rattle.core_token.specs.CoreToken.{next_core_token}
 use Rattle.terms.specs.Tree.{nil, Tree, tree, maybe, next}
 use Rattle.terms.specs.Label.{Label, Declaration, trees}
 use Rattle.terms.proofs.Cells.{next_cells}
 use Rattle.terms.proofs.Widths.{total}
-use Rattle.surface.specs.Reader.{Position, start, Result, done, refused, Reader, after, ◌>>=◌, pure}
+use Rattle.surface.specs.Reader.{Position, start, Result, Reader, after, ◌>>=◌, pure}
 use Rattle.surface.specs.Text.{is_close}
 use Rattle.surface.specs.Reading.{term, closing, lexed, beginning, declarations}
 use Rattle.core_text.specs.TextReading.{text_edition, string, end_token, declarations_line, read_text}
@@ -25,12 +25,11 @@ use Rattle.expects.proofs.Gives.{given}
 use Rattle.expects.proofs.Ahead.{Ahead, source, tag_ahead}
 use Rattle.expects.proofs.Lines.{after_after}
 use Rattle.reader.specs.declared.Limits.{Limits}
-use Rattle.reader.specs.declared.DeclarationsRead.{DeclarationsRead}
-use Rattle.reader.specs.declared.ModuleRead.{ModuleRead}
+use Rattle.reader.specs.Answers.{DeclarationsRead, ModuleRead, declarations_read}
+use Rattle.surface.specs.Answer.{loaded}
 use Rattle.reader.specs.Parts.{ReadsDeclarations}
 use Rattle.reader.proofs.Answers.{inside_first, all_from, all_refused, all_read}
-use Rattle.core_reader.specs.declared.Passed.{Passed}
-use Rattle.core_reader.specs.Heads.{head, text_end, behind_tag, passed, Passes}
+use Rattle.core_reader.specs.Heads.{Passed, head, text_end, behind_tag, passed, Passes}
 use Rattle.core_reader.specs.Texts.{ReadsWhole, ReadsBehind}
 use Rattle.core_reader.proofs.Flat.{behind, flat, declarations_tag}
 
@@ -46,6 +45,11 @@ few : (n : ℕ) (ds : List Declaration) → n + length ds ≤ total n ds
 few n [] = omega arith
 few n (d ∷ l) = let r = maybe d.body nil (λ (b : Tree Label). tree b nil) in omega (arith, few (next n (trees d)) l, next_cells n d.type.args, next_cells (suc (next n d.type.args)) r)
 
+-- Declarations that were read in the format of core text.
+pub core_declarations : (f : Format) (limits : Limits) (s table list work : List ℕ) (from : ℕ) (r : DeclarationsRead) (table₁ list₁ : List ℕ) → f ≡ Format.Core01
+    → ReadsDeclarations f limits s table list work from r table₁ list₁ → ReadsDeclarations Format.Core01 limits s table list work from r table₁ list₁
+core_declarations f limits s table list work from r table₁ list₁ e h = subst (λ (g : Format). ReadsDeclarations g limits s table list work from r table₁ list₁) e h
+
 -- What stands behind the declarations' tag.
 module _ (s table list work : List ℕ) (at : ℕ) where
   abbrev limits : Limits
@@ -59,25 +63,25 @@ module _ (s table list work : List ℕ) (at : ℕ) where
   from_here = refl
 
   module _ (x : DeclarationsRead) (table₁ list₁ : List ℕ) (g : ReadsDeclarations Format.Core01 limits s table list work at x table₁ list₁) where
-    pub declarations_refused : (r : Refusal) → x ≡ DeclarationsRead.Refused r → ReadsBehind answer s table list work at (ModuleRead.Refused r) table₁ list₁
+    pub declarations_refused : (r : Refusal) → x ≡ Err r → ReadsBehind answer s table list work at (Err r) table₁ list₁
     declarations_refused r e = λ short wide within.
         let i = inside_first limits.rows s work at short (omega arith) within in
         rw (from_here ∙ ap (λ y. after y (λ ds. text_end s >>= (λ e. pure ds))) (all_refused Format.Core01 limits s table list work at i x table₁ list₁ g r e)) refl
 
-    module _ (n k next frames : ℕ) (e : x ≡ DeclarationsRead.Done n k next frames) (y : Passed) (h : Passes (text_end s) next y) where
-      pub end_refused : (r : Refusal) → y ≡ Passed.Refused r → ReadsBehind answer s table list work at (ModuleRead.Refused r) table₁ list₁
+    module _ (n k next frames : ℕ) (e : x ≡ declarations_read n k next frames) (y : Passed) (h : Passes (text_end s) next y) where
+      pub end_refused : (r : Refusal) → y ≡ Err r → ReadsBehind answer s table list work at (Err r) table₁ list₁
       end_refused r j = λ short wide within.
           let i = inside_first limits.rows s work at short (omega arith) within in
           let a = all_read Format.Core01 limits s table list work at i x table₁ list₁ g n k next frames e in
           rw (from_here ∙ ap (λ y. after y (λ ds. text_end s >>= (λ e. pure ds))) a.read ∙ ap (λ y. after y (λ e. pure a.declarations)) (h n ∙ ap (passed n) j)) refl
 
-      pub text_done : (end : ℕ) → y ≡ Passed.At end → ReadsBehind answer s table list work at (ModuleRead.Done n k) table₁ list₁
+      pub text_done : (end : ℕ) → y ≡ Ok end → ReadsBehind answer s table list work at (loaded n k) table₁ list₁
       unfolding text_edition
       text_done end j = λ short wide within.
           let i = inside_first limits.rows s work at short (omega arith) within in
           let a = all_read Format.Core01 limits s table list work at i x table₁ list₁ g n k next frames e in
           rw (from_here ∙ ap (λ y. after y (λ ds. text_end s >>= (λ e. pure ds))) a.read ∙ ap (λ y. after y (λ e. pure a.declarations)) (h n ∙ ap (passed n) j))
-          (ap (ModuleRead.Done n) a.count, a.rows (omega arith), a.records (omega arith), omega (arith, few 0 a.declarations, a.onward.rows, a.onward.slow, a.onward.high, short))
+          (ap (loaded n) a.count, a.rows (omega arith), a.records (omega arith), omega (arith, few 0 a.declarations, a.onward.rows, a.onward.slow, a.onward.high, short))
 
 -- A whole text.
 module _ (s table list work : List ℕ) (x : Passed) (h : Passes (head s) 0 x) where
@@ -103,14 +107,14 @@ module _ (s table list work : List ℕ) (x : Passed) (h : Passes (head s) 0 x) w
       ∙ behind (head s start) from_head _ (λ u q. ap (λ y. after y from_tag) (declarations_tag s q)
       ∙ behind (tag (next_core_token s) s (ascii "declarations") q) from_tag _ (λ w r. behind (all r) finished _ (λ ds v. sym (ends s (pure ds) v))))
 
-  pub head_stops : (r : Refusal) → x ≡ Passed.Refused r → (table₁ list₁ : List ℕ) → ReadsWhole s table list work (ModuleRead.Refused r) table₁ list₁
+  pub head_stops : (r : Refusal) → x ≡ Err r → (table₁ list₁ : List ℕ) → ReadsWhole s table list work (Err r) table₁ list₁
   head_stops r e table₁ list₁ = λ short wide. rw (headed, h 0, e) refl
 
-  module _ (next : ℕ) (e : x ≡ Passed.At next) (y : Lexed) (g : Reads (tag (next_core_token s) s (ascii "declarations")) next y) where
-    pub tag_stops : (r : Refusal) → y ≡ Refused r → (table₁ list₁ : List ℕ) → ReadsWhole s table list work (ModuleRead.Refused r) table₁ list₁
+  module _ (next : ℕ) (e : x ≡ Ok next) (y : Lexed) (g : Reads (tag (next_core_token s) s (ascii "declarations")) next y) where
+    pub tag_stops : (r : Refusal) → y ≡ Err r → (table₁ list₁ : List ℕ) → ReadsWhole s table list work (Err r) table₁ list₁
     tag_stops r i table₁ list₁ = λ short wide. rw (headed, h 0, e, g 0, i) refl
 
-    pub tag_goes : (w : Token) → y ≡ Got w → (r : ModuleRead) (table₁ list₁ : List ℕ)
+    pub tag_goes : (w : Token) → y ≡ Ok w → (r : ModuleRead) (table₁ list₁ : List ℕ)
         → ReadsBehind (behind_tag s (length table / 8) (length list / 5) (position_at w.end 0)) s table list work w.end r table₁ list₁
         → ReadsWhole s table list work r table₁ list₁
     unfolding text_edition

@@ -1,16 +1,17 @@
 -- The parts of a core text's head that have functions of their own. Only contracts of inner functions cite this.
-use Rattle.std.specs.Prelude.{◌≡◌, Bool, ◌&&◌, List, ℕ}
+use Rattle.token.specs.declared.Class.{Class}
+use Rattle.std.specs.Prelude as std
+use Rattle.std.specs.Prelude.{◌≡◌, Bool, ◌&&◌, List, ℕ, Ok, Err}
 use Rattle.words.specs.Words.{ascii, same_bytes}
 use Rattle.core_token.specs.CoreToken.{next_core_token}
 use Rattle.terms.specs.Label.{Declaration}
 use Rattle.surface.specs.Text.{text, is_close}
-use Rattle.surface.specs.Reader.{Position, Result, done, refused, Reader, ◌>>=◌, ◌>>◌, pure, require, nowhere}
+use Rattle.surface.specs.Reader.{Result, done, refused, Reader, ◌>>=◌, pure, require, nowhere}
 use Rattle.surface.specs.Reading.{term, closing, natural, beginning, declarations}
 use Rattle.core_text.specs.TextReading.{text_edition, string, end_token, zero_one}
 use Rattle.expects.specs.Expects.{position_at}
 use Rattle.expects.specs.Lines.{tag}
-use Rattle.core_reader.specs.declared.VersionRead.{VersionRead}
-use Rattle.core_reader.specs.declared.Passed.{Passed}
+use Rattle.token.specs.declared.Refusal.{Refusal}
 
 module _ (s : List ℕ) where
   -- NUMERAL NUMERAL `)`: whether the numerals are 0 and 1.
@@ -41,7 +42,7 @@ module _ (s : List ℕ) where
     w ← tag (next_core_token s) s (ascii "hott-core")
     f ← format_line
     t ← theory_line
-    require (f && t) (nowhere 2)
+    require (f && t) (nowhere Class.Version)
 
   -- What stands behind the declarations: the closing parenthesis of the whole text, and the end.
   unfoldable pub text_end : Reader (Unit {0})
@@ -57,14 +58,21 @@ module _ (s : List ℕ) where
     e ← text_end
     pure ds
 
--- What the code answers.
+-- What the code answers: whether a version is 0 1, and where reading goes on; or the refusal.
+abbrev pub VersionRead : Type 0
+VersionRead = std.Result (Bool × ℕ) Refusal
+
+-- Where reading goes on, or the refusal.
+abbrev pub Passed : Type 0
+Passed = std.Result ℕ Refusal
+
 abbrev pub version_read : ℕ → VersionRead → Result Bool
-version_read n (VersionRead.Got b next) = done b (position_at next n)
-version_read n (VersionRead.Refused r) = refused r
+version_read n (Ok x) = done x.0 (position_at x.1 n)
+version_read n (Err r) = refused r
 
 abbrev pub passed : ℕ → Passed → Result (Unit {0})
-passed n (Passed.At next) = done tt (position_at next n)
-passed n (Passed.Refused r) = refused r
+passed n (Ok next) = done tt (position_at next n)
+passed n (Err r) = refused r
 
 -- r is what a reader of a version, or one that only passes, gives at an offset.
 abbrev pub ReadsVersion : Reader Bool → ℕ → VersionRead → Type 0

@@ -2,79 +2,38 @@
 // The port of `parse_module` in format/parser.rs. Document 02, Req 03.
 #![tactic(auto)]
 
-ghost use Rattle.std.specs.Prelude.{◌≡◌, ◌&&◌, ◌/◌, length};
-ghost use Rattle.token.specs.Classes.{ClassTable};
+ghost use Rattle.std.specs.Prelude.{◌≡◌, ◌/◌, length};
 ghost use Rattle.words.specs.Words.{ascii, same_bytes};
 ghost use Rattle.surface.specs.Text.{text};
+ghost use Rattle.expects.specs.declared.Format.{Format};
 ghost use Rattle.expects.specs.Expects.{position_at};
 ghost use Rattle.expects.specs.Tokens.{TokenInside};
 ghost use Rattle.core_reader.specs.Texts.{ReadsWhole, ReadsBehind};
 ghost use Rattle.core_reader.specs.Heads.{version, format_line, theory_line, head, text_end, behind_tag, ReadsVersion, Passes};
 
-use expects::{Format, NameRead};
-use reader::{DeclarationsRead, Limits, ModuleRead};
-use token::{Lexed, Refusal, Token};
+use expects::{Format, Input};
+use reader::{Frames, Limits};
+use surface::Loaded;
+use token::{Class, Classes, Refusal, Token};
 
-// Whether a version is 0 1, and where reading goes on.
-#[derive(Clone, Copy)]
-enum VersionRead {
-    Got(bool, usize),
-    Refused(Refusal),
-}
-
-// Where reading goes on.
-#[derive(Clone, Copy)]
-enum Passed {
-    At(usize),
-    Refused(Refusal),
-}
-
-// The two numerals of a version, and the closing parenthesis behind them.
-fn read_version(s: &[u8], classes: &[u8], at: usize) -> VersionRead
-    requires { ClassTable classes.now }
-    ensures { ReadsVersion (version s.now) at result }
+// The two numerals of a version, and the closing parenthesis behind them: whether it is 0 1, and where reading goes on.
+fn read_version(input: Input, at: usize) -> Result<(bool, usize), Refusal>
+    requires { input.format ≡ Format.Core01 }
+    ensures { ReadsVersion (version input.entry.bytes.now) at result }
 {
-    let m = expects::parse_natural(s, classes, at, Format::Core01);
-    match m {
-        Lexed::Refused(r) => VersionRead::Refused(r),
-        Lexed::Got(major) => {
-            let n = expects::parse_natural(s, classes, major.end, Format::Core01);
-            match n {
-                Lexed::Refused(r) => VersionRead::Refused(r),
-                Lexed::Got(minor) => {
-                    let c = expects::expect_rparen(s, classes, minor.end, Format::Core01);
-                    match c {
-                        Lexed::Refused(r) => VersionRead::Refused(r),
-                        Lexed::Got(close) => {
-                            let supported = expects::is_version(s, major, minor, b"1");
-                            VersionRead::Got(supported, close.end)
-                        }
-                    }
-                }
-            }
-        }
-    }
+    let major = input.parse_natural(at)?;
+    let minor = input.parse_natural(major.end)?;
+    let close = input.expect_rparen(minor.end)?;
+    Ok((input.is_version(major, minor, b"1"), close.end))
 }
 
 // `(format 0 1)`
-fn format_line(s: &[u8], classes: &[u8], at: usize) -> VersionRead
-    requires { ClassTable classes.now }
-    ensures { ReadsVersion (format_line s.now) at result }
+fn format_line(input: Input, at: usize) -> Result<(bool, usize), Refusal>
+    requires { input.format ≡ Format.Core01 }
+    ensures { ReadsVersion (format_line input.entry.bytes.now) at result }
 {
-    let l = expects::expect_tag(s, classes, at, b"format", Format::Core01);
-    match l {
-        Lexed::Refused(r) => VersionRead::Refused(r),
-        Lexed::Got(w) => read_version(s, classes, w.end),
-    }
-}
-
-fn both(a: bool, b: bool) -> bool
-    ensures { result ≡ (a && b) }
-{
-    if a {
-        return b;
-    }
-    false
+    let w = input.expect_tag(at, b"format")?;
+    read_version(input, w.end)
 }
 
 // Whether the theory's name, a part of the text, is `mltt-core`.
@@ -82,150 +41,84 @@ fn is_theory(s: &[u8], name: Token) -> bool
     requires { TokenInside (length s.now) name }
     ensures { result ≡ same_bytes (text s.now name) (ascii "mltt-core") }
 {
-    let a = name.start;
-    let e = name.end;
-    words::same_bytes(&s[a..e], b"mltt-core")
+    words::same_bytes(&s[name.start..name.end], b"mltt-core")
 }
 
 // `(theory "mltt-core" 0 1)`
-fn theory_line(s: &[u8], classes: &[u8], at: usize) -> VersionRead
-    requires { ClassTable classes.now }
-    ensures { ReadsVersion (theory_line s.now) at result }
+fn theory_line(input: Input, at: usize) -> Result<(bool, usize), Refusal>
+    requires { input.format ≡ Format.Core01 }
+    ensures { ReadsVersion (theory_line input.entry.bytes.now) at result }
 {
-    let l = expects::expect_tag(s, classes, at, b"theory", Format::Core01);
-    match l {
-        Lexed::Refused(r) => VersionRead::Refused(r),
-        Lexed::Got(w) => {
-            let x = expects::parse_name(s, classes, w.end, Format::Core01);
-            match x {
-                NameRead::Refused(r) => VersionRead::Refused(r),
-                NameRead::Got(name, next) => {
-                    let v = read_version(s, classes, next);
-                    match v {
-                        VersionRead::Refused(r) => VersionRead::Refused(r),
-                        VersionRead::Got(supported, end) => {
-                            let known = is_theory(s, name);
-                            VersionRead::Got(both(known, supported), end)
-                        }
-                    }
-                }
-            }
-        }
-    }
+    let w = input.expect_tag(at, b"theory")?;
+    let (name, next) = input.parse_name(w.end)?;
+    let (supported, end) = read_version(input, next)?;
+    Ok((is_theory(input.bytes, name) && supported, end))
 }
 
-// The head. Its versions and the theory's name are judged behind the theory's parenthesis.
-fn read_head(s: &[u8], classes: &[u8]) -> Passed
-    requires { ClassTable classes.now }
-    ensures { Passes (head s.now) 0 result }
+// The head, and where reading goes on. Its versions and the theory's name are judged behind the theory's parenthesis.
+fn read_head(input: Input) -> Result<usize, Refusal>
+    requires { input.format ≡ Format.Core01 }
+    ensures { Passes (head input.entry.bytes.now) 0 result }
 {
-    let l = expects::expect_tag(s, classes, 0, b"hott-core", Format::Core01);
-    match l {
-        Lexed::Refused(r) => Passed::Refused(r),
-        Lexed::Got(w) => {
-            let f = format_line(s, classes, w.end);
-            match f {
-                VersionRead::Refused(r) => Passed::Refused(r),
-                VersionRead::Got(format, next) => {
-                    let t = theory_line(s, classes, next);
-                    match t {
-                        VersionRead::Refused(r) => Passed::Refused(r),
-                        VersionRead::Got(theory, end) => {
-                            if both(format, theory) {
-                                return Passed::At(end);
-                            }
-                            Passed::Refused(expects::refused_nowhere(2))
-                        }
-                    }
-                }
-            }
-        }
+    let w = input.expect_tag(0, b"hott-core")?;
+    let (format, next) = format_line(input, w.end)?;
+    let (theory, end) = theory_line(input, next)?;
+    if format && theory {
+        return Ok(end);
     }
+    Err(Refusal::nowhere(Class::Version))
 }
 
 // What stands behind the declarations: the closing parenthesis of the whole text, and the end.
-fn read_end(s: &[u8], classes: &[u8], at: usize) -> Passed
-    requires { ClassTable classes.now }
-    ensures { Passes (text_end s.now) at result }
+fn read_end(input: Input, at: usize) -> Result<usize, Refusal>
+    requires { input.format ≡ Format.Core01 }
+    ensures { Passes (text_end input.entry.bytes.now) at result }
 {
-    let l = expects::expect_rparen(s, classes, at, Format::Core01);
-    match l {
-        Lexed::Refused(r) => Passed::Refused(r),
-        Lexed::Got(close) => {
-            let e = expects::expect_end(s, classes, close.end, Format::Core01);
-            match e {
-                Lexed::Refused(r) => Passed::Refused(r),
-                Lexed::Got(t) => Passed::At(t.end),
-            }
-        }
-    }
+    let close = input.expect_rparen(at)?;
+    let end = input.expect_end(close.end)?;
+    Ok(end.end)
 }
 
 // The declarations behind their tag, and what stands behind them.
 fn read_behind(
-    s: &[u8],
-    classes: &[u8],
+    input: Input,
     table: &mut [u32],
     list: &mut [u32],
     work: &mut [u32],
     at: usize,
-) -> ModuleRead
-    requires { ClassTable classes.now }
-    ensures { ReadsBehind (behind_tag s.now (length table.old / 8) (length list.old / 5) (position_at at 0)) s.now table.old list.old work.old at result table.new list.new }
+) -> Result<Loaded, Refusal>
+    requires { input.format ≡ Format.Core01 }
+    ensures { ReadsBehind (behind_tag input.entry.bytes.now (length table.old / 8) (length list.old / 5) (position_at at 0)) input.entry.bytes.now table.old list.old work.old at result table.new list.new }
 {
     let limits = Limits {
         rows: table.len() / 8,
         declarations: list.len() / 5,
     };
-    let d = reader::read_declarations(s, classes, table, list, work, at, limits, Format::Core01);
-    match d {
-        DeclarationsRead::Refused(r) => ModuleRead::Refused(r),
-        DeclarationsRead::Done {
-            rows,
-            declarations,
-            next,
-            frames: _,
-        } => {
-            let e = read_end(s, classes, next);
-            match e {
-                Passed::Refused(r) => ModuleRead::Refused(r),
-                Passed::At(_) => ModuleRead::Done {
-                    rows: rows,
-                    declarations: declarations,
-                },
-            }
-        }
-    }
+    let all = reader::read_declarations::<Frames>(input, table, list, work, at, limits)?;
+    read_end(input, all.next)?;
+    Ok(Loaded {
+        rows: all.rows,
+        declarations: all.declarations,
+    })
 }
 
-// The port of `parse_module`, but for the test of the names: a core text into rows and records.
-fn read_by(
+// The port of `parse_module`, but for the test of the names: a core text into rows and records. Its tokens are its own; a reader of all
+// formats is handed the table of byte classes all the same.
+pub fn read_text(
     s: &[u8],
-    classes: &[u8],
     table: &mut [u32],
     list: &mut [u32],
     work: &mut [u32],
-) -> ModuleRead
-    requires { ClassTable classes.now }
+) -> Result<Loaded, Refusal>
     ensures { ReadsWhole s.now table.old list.old work.old result table.new list.new }
 {
-    let h = read_head(s, classes);
-    match h {
-        Passed::Refused(r) => ModuleRead::Refused(r),
-        Passed::At(next) => {
-            let l = expects::expect_tag(s, classes, next, b"declarations", Format::Core01);
-            match l {
-                Lexed::Refused(r) => ModuleRead::Refused(r),
-                Lexed::Got(w) => read_behind(s, classes, table, list, work, w.end),
-            }
-        }
-    }
-}
-
-// What is read for a core text has tokens of its own; a reader of all formats is handed the table all the same.
-pub fn read_text(s: &[u8], table: &mut [u32], list: &mut [u32], work: &mut [u32]) -> ModuleRead
-    ensures { ReadsWhole s.now table.old list.old work.old result table.new list.new }
-{
-    let classes = token::class_table();
-    read_by(s, &classes, table, list, work)
+    let classes = Classes::new();
+    let input = Input {
+        bytes: s,
+        classes: &classes,
+        format: Format::Core01,
+    };
+    let next = read_head(input)?;
+    let w = input.expect_tag(next, b"declarations")?;
+    read_behind(input, table, list, work, w.end)
 }

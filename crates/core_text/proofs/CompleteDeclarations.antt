@@ -1,4 +1,5 @@
 -- Declarations of a core text that the grammar derives are read, where there is room.
+use Rattle.token.specs.Token.{Lexed}
 use mathlib.Core.Path.{◌≡◌, refl, sym, ap, ◌∙◌, subst}
 use mathlib.Core.List.{List, [], ◌∷◌}
 use mathlib.Core.Option.{none, some}
@@ -7,7 +8,6 @@ use native.Mathlib.Omega.{arith}
 use lib.ListN.{length}
 use Rattle.token.specs.declared.TokenKind.{TokenKind}
 use Rattle.token.specs.declared.Token.{Token}
-use Rattle.token.specs.declared.Lexed.{Lexed}
 use Rattle.words.specs.Words.{ascii}
 use Rattle.terms.specs.Forms.{forms}
 use Rattle.terms.specs.TextForms.{text_forms}

@@ -1,4 +1,5 @@
 -- A core text that the grammar derives is read, where there is room; so the grammar derives one list of declarations at most.
+use Rattle.token.specs.declared.Class.{Class}
 use mathlib.Core.Path.{◌≡◌, refl, sym, ap, ◌∙◌, subst}
 use mathlib.Core.List.{List, []}
 use mathlib.Core.Bool.{Bool, true, and-eq-true_iff}
@@ -75,7 +76,7 @@ module _ (t : List ℕ) where
             (after_go _ _ d (to p d) _ (natural_takes N t (to p n) d (first_token l₂) z.0)
             (after_go _ _ e (to p e) _ (natural_takes N t (to p d) e (first_token l₃) z.1)
             (after_go _ _ f (to p f) _ (closing_takes N (to p e) f (first_token l₄) j₄)
-            (ap (λ (x : Bool). require x (nowhere 2) (to p f)) ((and-eq-true_iff (zero_one t a b) _).1 (zero_one_goes a b i₅ i₆, (and-eq-true_iff (same_bytes (text t (between n)) (ascii "mltt-core")) _).1 (eq_same _ _ j₁.is, zero_one_goes d e j₂ j₃))))))))))))))));
+            (ap (λ (x : Bool). require x (nowhere Class.Version) (to p f)) ((and-eq-true_iff (zero_one t a b) _).1 (zero_one_goes a b i₅ i₆, (and-eq-true_iff (same_bytes (text t (between n)) (ascii "mltt-core")) _).1 (eq_same _ _ j₁.is, zero_one_goes d e j₂ j₃))))))))))))))));
         goes_on =
             after_go _ _ o₄ (to p o₄) _ (opening_takes N (to p f) o₄ (first_token l₅) j₅)
             (word_takes N t (ascii "declarations") (to p o₄) y (first_token l₆) j₆);

@@ -1,4 +1,5 @@
 -- Declarations of a core text that are read are what the grammar says.
+use Rattle.token.specs.Token.{Lexed}
 use mathlib.Core.Path.{◌≡◌, refl, ap, ◌∙◌, subst}
 use mathlib.Core.List.{List, ◌∷◌}
 use mathlib.Core.Option.{Option, some}
@@ -7,7 +8,6 @@ use native.Mathlib.Omega.{arith}
 use lib.ListN.{length}
 use Rattle.token.specs.declared.TokenKind.{TokenKind}
 use Rattle.token.specs.declared.Token.{Token}
-use Rattle.token.specs.declared.Lexed.{Lexed}
 use Rattle.terms.specs.Tree.{nil, Tree, tree, next}
 use Rattle.terms.specs.Label.{Label, Declaration, trees}
 use Rattle.terms.proofs.Widths.{total}

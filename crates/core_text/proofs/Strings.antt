@@ -1,12 +1,12 @@
 -- Strings and the end: what a step that succeeds has met, and what a step gives on the token that it wants.
+use Rattle.token.specs.Token.{Lexed}
+use Rattle.std.specs.Prelude.{Ok}
 use mathlib.Core.Path.{◌≡◌, refl, sym, ap, subst}
 use mathlib.Core.Bool.{true, false≢true}
 use Prim.Native.Nat.{ℕ}
 use native.Mathlib.Omega.{arith}
 use Rattle.token.specs.declared.TokenKind.{TokenKind}
 use Rattle.token.specs.declared.Token.{Token}
-use Rattle.token.specs.declared.Lexed.{Lexed}
-use Rattle.token.specs.declared.Lexed.TheVariants.{Got}
 use Rattle.surface.specs.Text.{is_string, is_end}
 use Rattle.surface.specs.Reader.{Position, done, Reader, after}
 use Rattle.surface.specs.Reading.{token}
@@ -55,7 +55,7 @@ module _ (next : ℕ → Lexed) where
       let w = string_done p v y f in
       h w.whole v w.takes w.quotes (subst (λ (z : Token). k z v ≡ done b q) (sym w.kept) e₁))
 
-  pub string_takes : (p : Position) (x : Token) → next p.offset ≡ Got x → Quotes x → string next p ≡ done (between x) (to p x)
+  pub string_takes : (p : Position) (x : Token) → next p.offset ≡ Ok x → Quotes x → string next p ≡ done (between x) (to p x)
   unfolding string
   string_takes p x e k = after_go _ _ x (to p x) _ (token_takes next p x e) (require_go (is_string x.kind) _ (to p x) _ _ (ap is_string k) refl)
 
@@ -66,6 +66,6 @@ module _ (next : ℕ → Lexed) where
       require_elim (is_end u.kind) _ v _ t q e₁ (λ b e₂.
       done_as (λ x y. Took next p x y × (x.kind ≡ TokenKind.Eof)) e₂ (token_done next p v u f, end_is u.kind b)))
 
-  pub end_takes : (p : Position) (t : Token) → next p.offset ≡ Got t → t.kind ≡ TokenKind.Eof → end_token next p ≡ done t (to p t)
+  pub end_takes : (p : Position) (t : Token) → next p.offset ≡ Ok t → t.kind ≡ TokenKind.Eof → end_token next p ≡ done t (to p t)
   unfolding end_token
   end_takes p t e k = after_go _ _ t (to p t) _ (token_takes next p t e) (require_go (is_end t.kind) _ (to p t) _ _ (ap is_end k) refl)

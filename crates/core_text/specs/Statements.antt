@@ -1,4 +1,5 @@
 -- The headline statements about reading core text, each as a type; core_text/proofs/Statements.antt has a proof of each.
+use Rattle.token.specs.declared.Class.{Class}
 use Rattle.std.specs.Prelude.{◌≡◌, List, ℕ, ◌≤◌, length}
 use Rattle.words.specs.Words.{ascii}
 use Rattle.terms.specs.Label.{Declaration}
@@ -25,5 +26,5 @@ TextUnique = (t : List ℕ) (ds es : List Declaration) → DerivesText t ds → 
 -- 2 is given behind the theory's parenthesis, and not before: a text that ends in front of it is malformed at its end, with any numerals.
 abbrev pub VersionPlace : Type 0
 VersionPlace =
-    (read_text (ascii "(hott-core (format 9 9) (theory \"x\" 0 1") 0 0 0 start ≡ refused (at_offset 1 39))
-    × (read_text (ascii "(hott-core (format 9 9) (theory \"x\" 0 1)") 0 0 0 start ≡ refused (nowhere 2))
+    (read_text (ascii "(hott-core (format 9 9) (theory \"x\" 0 1") 0 0 0 start ≡ refused (at_offset Class.Malformed 39))
+    × (read_text (ascii "(hott-core (format 9 9) (theory \"x\" 0 1)") 0 0 0 start ≡ refused (nowhere Class.Version))

@@ -1,10 +1,11 @@
 -- Document 02, Req 03: the reading order of a core text, as `Parser` in format/parser.rs has it. The readers of terms and declarations are
 -- those of a source, with other tokens, other forms, and strings for names. Inside, 1 stands for malformed and 8 for a full table, as in a
 -- source; what a call answers has document 02's numbers.
+use Rattle.token.specs.declared.Class.{Class}
+use Rattle.token.specs.Token.{Lexed}
 use Rattle.std.specs.Prelude.{List, Bool, false, ◌&&◌, ℕ, ◌+◌, ◌-◌}
 use Rattle.token.specs.declared.TokenKind.{TokenKind}
 use Rattle.token.specs.declared.Token.{Token}
-use Rattle.token.specs.declared.Lexed.{Lexed}
 use Rattle.core_token.specs.CoreToken.{next_core_token}
 use Rattle.words.specs.Words.{ascii, same_bytes}
 use Rattle.terms.specs.Forms.{Edition}
@@ -22,14 +23,14 @@ text_edition = record { tokens = next_core_token; forms = text_forms; reserved =
 unfoldable pub string : (ℕ → Lexed) → Reader Token
 string next = do
   t ← token next
-  require (is_string t.kind) (at_token 1 t)
+  require (is_string t.kind) (at_token Class.Malformed t)
   pure (record { kind = TokenKind.String; start = t.start + 1; end = t.end - 1 })
 
 -- The end token.
 unfoldable pub end_token : (ℕ → Lexed) → Reader Token
 end_token next = do
   t ← token next
-  require (is_end t.kind) (at_token 1 t)
+  require (is_end t.kind) (at_token Class.Malformed t)
   pure t
 
 -- Whether two numerals are 0 and 1.
@@ -54,7 +55,7 @@ module _ (s : List ℕ) where
     d ← natural (next_core_token s) s
     e ← natural (next_core_token s) s
     f ← closing (next_core_token s)
-    require (zero_one s a b && (same_bytes (text s n) (ascii "mltt-core") && zero_one s d e)) (nowhere 2)
+    require (zero_one s a b && (same_bytes (text s n) (ascii "mltt-core") && zero_one s d e)) (nowhere Class.Version)
 
   -- `(declarations`
   unfoldable pub declarations_line : Reader Token

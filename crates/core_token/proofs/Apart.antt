@@ -1,14 +1,14 @@
 -- Two atoms of a core text that follow each other stand apart: a byte at least lies between them, since an atom is taken as long as possible.
+use Rattle.std.specs.Prelude.{Ok, Err}
 use mathlib.Core.Path.{◌≡◌, refl, sym, ap, ◌∙◌, subst}
 use mathlib.Core.List.{List, [], ◌∷◌}
 use Prim.Native.Nat.{ℕ, suc, ◌+◌, ◌<◌}
 use native.Mathlib.Omega.{arith}
 use lib.ListN.{length, drop}
 use lib.Seq.{drop-drop}
-use Rattle.token.specs.Token.{malformed, token}
+use Rattle.token.specs.Token.{malformed, token, Lexed}
 use Rattle.token.specs.declared.TokenKind.{TokenKind}
 use Rattle.token.specs.declared.Token.{Token}
-use Rattle.token.specs.declared.Lexed.{Lexed}
 use Rattle.token.proofs.Bounds.{Within, SpanOf}
 use Rattle.core_token.specs.CoreToken.{core_class, core_atom_from, nothing, string_from, core_token_from, next_core_token}
 use Rattle.core_token.specs.declared.CoreClass.{CoreClass}
@@ -26,12 +26,12 @@ differ z = omega arith
 
 -- An atom that is found at an offset, before the bytes of a list, ends k bytes later, where no atom byte stands.
 abbrev Behind : ℕ → List ℕ → Lexed → Type 0
-Behind at l (Lexed.Got t) = t.kind ≡ TokenKind.Atom → (k : ℕ) × (t.end ≡ at + k) × NoAtom (drop k l)
-Behind at l (Lexed.Refused r) = Unit {0}
+Behind at l (Ok t) = t.kind ≡ TokenKind.Atom → (k : ℕ) × (t.end ≡ at + k) × NoAtom (drop k l)
+Behind at l (Err r) = Unit {0}
 
 one_on : (at b : ℕ) (l : List ℕ) (x : Lexed) → Behind (at + 1) l x → Behind at (b ∷ l) x
-one_on at b l (Lexed.Got t) h = λ a. let v = h a in let e = v.1 in (suc v.0, omega arith, v.2)
-one_on at b l (Lexed.Refused r) h = tt
+one_on at b l (Ok t) h = λ a. let v = h a in let e = v.1 in (suc v.0, omega arith, v.2)
+one_on at b l (Err r) h = tt
 
 ends_by : (start at b : ℕ) (l : List ℕ) (k : CoreClass) → core_class b ≡ k → (x : Lexed) → Behind at (b ∷ l) x
     → Behind at (b ∷ l) (elim k as (λ _. Lexed) [
@@ -63,7 +63,7 @@ here_behind (b ∷ l) at =
     (λ e f. absurd (differ cc)) (λ f. absurd (differ cc)) (λ e. every_string (Behind at (b ∷ l)) (λ a c f. absurd (differ cc)) (λ p. tt) l at nothing (at + 1))
     (one_on at b l (core_atom_from at (at + 1) l) (atom_behind l at (at + 1))) tt
 
-behind_atom : (s : List ℕ) (at : ℕ) (t : Token) → next_core_token s at ≡ Lexed.Got t → t.kind ≡ TokenKind.Atom → NoAtom (drop t.end s)
+behind_atom : (s : List ℕ) (at : ℕ) (t : Token) → next_core_token s at ≡ Ok t → t.kind ≡ TokenKind.Atom → NoAtom (drop t.end s)
 unfolding next_core_token
 behind_atom s at t e a =
     let v = subst (Behind at (drop at s)) e (here_behind (drop at s) at) a in
@@ -71,12 +71,12 @@ behind_atom s at t e a =
 
 -- An atom that is found at an offset where no atom byte stands starts later.
 abbrev Later : ℕ → Lexed → Type 0
-Later at (Lexed.Got u) = u.kind ≡ TokenKind.Atom → at < u.start
-Later at (Lexed.Refused r) = Unit {0}
+Later at (Ok u) = u.kind ≡ TokenKind.Atom → at < u.start
+Later at (Err r) = Unit {0}
 
 later_from : (at hi : ℕ) (x : Lexed) → Within (at + 1) hi x → Later at x
-later_from at hi (Lexed.Got u) w = λ a. let v = subst (λ (k : TokenKind). SpanOf k (at + 1) u.start u.end hi) a w in omega (arith, v.low)
-later_from at hi (Lexed.Refused r) w = tt
+later_from at hi (Ok u) w = λ a. let v = subst (λ (k : TokenKind). SpanOf k (at + 1) u.start u.end hi) a w in omega (arith, v.low)
+later_from at hi (Err r) w = tt
 
 late_by : (at : ℕ) (k : CoreClass) → (k ≡ Atom → ⊥) → (n q x : Lexed) → Later at n → Later at q
     → Later at (elim k as (λ _. Lexed) [
@@ -102,7 +102,7 @@ here_later at (b ∷ l) n =
     (later_from at (at + 1 + length l) (core_token_from (at + 1) l) (token_span l (at + 1) (at + 1) (at + 1 + length l) (omega arith) (λ f. omega arith) (omega arith)))
     (every_string (Later at) (λ a c f. absurd (differ cc)) (λ p. tt) l at nothing (at + 1))
 
-pub atoms_apart : (s : List ℕ) (at : ℕ) (t u : Token) → next_core_token s at ≡ Lexed.Got t → t.kind ≡ TokenKind.Atom
-    → next_core_token s t.end ≡ Lexed.Got u → u.kind ≡ TokenKind.Atom → t.end < u.start
+pub atoms_apart : (s : List ℕ) (at : ℕ) (t u : Token) → next_core_token s at ≡ Ok t → t.kind ≡ TokenKind.Atom
+    → next_core_token s t.end ≡ Ok u → u.kind ≡ TokenKind.Atom → t.end < u.start
 unfolding next_core_token
 atoms_apart s at t u e a f b = subst (Later t.end) f (here_later t.end (drop t.end s) (behind_atom s at t e a)) b

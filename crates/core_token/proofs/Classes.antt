@@ -65,10 +65,6 @@ module _ (b : ℕ) where
         le-leb b 126 (omega arith),
       )
 
-  -- No byte is left where the parentheses stand.
-  pub between : 40 ≤ b → b ≤ 41 → Not b 40 → Not b 41 → ⊥
-  between l h h40 h41 = omega arith
-
   pub low_control : b < 32 → StringClass.Control ≡ string_class b
   unfolding string_class
   low_control h = simp (ne_eqb b 34 (λ q. omega arith), ne_eqb b 92 (λ q. omega arith), lt-ltb b 32 h)

@@ -1,4 +1,6 @@
 -- The bytes at a token's ends: an opening parenthesis starts at its byte; a string has its quotes, and a byte between them.
+use Rattle.token.specs.Token.{Lexed}
+use Rattle.std.specs.Prelude.{Ok, Err}
 use Prim.Native.Nat.{ℕ, ◌+◌, ◌-◌, ◌<◌}
 use mathlib.Core.Path.{◌≡◌, refl, sym, ◌∙◌, ap, subst}
 use mathlib.Core.Bool.{◌||◌}
@@ -10,7 +12,6 @@ use lib.Seq.{drop-drop, get_or-drop}
 use borrow.Author.Tests.{eqb-false}
 use Rattle.token.specs.declared.TokenKind.{TokenKind}
 use Rattle.token.specs.declared.Token.{Token}
-use Rattle.token.specs.declared.Lexed.{Lexed}
 use Rattle.core_token.specs.CoreToken.{core_class, string_class, core_atom_from, Open, nothing, backslash, lead, string_from, core_token_from, next_core_token}
 use Rattle.core_token.specs.declared.StringClass.{StringClass}
 use Rattle.core_token.proofs.Classes.{open_byte, quote_byte, string_quote_byte}
@@ -31,8 +32,8 @@ module _ (s : List ℕ) where
   BytesOf TokenKind.Eof a e = Unit {0}
 
   abbrev Shows : Lexed → Type 0
-  Shows (Lexed.Got t) = BytesOf t.kind t.start t.end
-  Shows (Lexed.Refused r) = Unit {0}
+  Shows (Ok t) = BytesOf t.kind t.start t.end
+  Shows (Err r) = Unit {0}
 
   byte_at : (at b : ℕ) (l : List ℕ) → drop at s ≡ b ∷ l → get_or s at 0 ≡ b
   byte_at at b l d = let z : at ≡ at + 0 = omega arith in ap (λ n. get_or s n 0) z ∙ sym (get_or-drop at s 0 0) ∙ ap (λ (x : List ℕ). get_or x 0 0) d
@@ -74,7 +75,7 @@ module _ (s : List ℕ) where
       here_by Shows (core_class b) at _ _ _ (here_shows l (at + 1) r) (λ k. ap (take 1) d ∙ ap {B = List ℕ} (λ x. x ∷ []) (open_byte b k)) tt
       (λ k. string_shows at (byte_at at b l d ∙ quote_byte b k) l nothing (at + 1) (omega arith) r) (atom_shows at (at + 1) l) tt
 
-  module _ (at : ℕ) (t : Token) (e : next_core_token s at ≡ Lexed.Got t) where
+  module _ (at : ℕ) (t : Token) (e : next_core_token s at ≡ Ok t) where
     shows : BytesOf t.kind t.start t.end
     unfolding next_core_token
     shows = subst Shows e (here_shows (drop at s) at refl)

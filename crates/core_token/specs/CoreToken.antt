@@ -1,8 +1,7 @@
 -- Document 02, Req 03: the tokens of a core text, as `Lexer` in format/parser.rs has them. There are no comments.
 use Rattle.std.specs.Prelude.{ℕ, ◌+◌, List, [], ◌∷◌, true, false, ◌||◌, cond, drop, leb, ltb, eqb}
-use Rattle.token.specs.Token.{within, layout_byte, malformed, token}
+use Rattle.token.specs.Token.{within, layout_byte, malformed, token, Lexed}
 use Rattle.token.specs.declared.TokenKind.{TokenKind}
-use Rattle.token.specs.declared.Lexed.{Lexed}
 use Rattle.core_token.specs.declared.CoreClass.{CoreClass}
 use Rattle.core_token.specs.declared.CoreClass.TheVariants.{Layout, LParen, RParen, Quote, Atom, Refused}
 use Rattle.core_token.specs.declared.StringClass.{StringClass}

@@ -6,10 +6,10 @@ ghost use Rattle.std.specs.Prelude.{◌≡◌, ◌||◌, ◌<◌, eqb, drop};
 ghost use Rattle.token.specs.Token.{token, malformed};
 ghost use Rattle.core_token.specs.CoreToken.{core_class, string_class, core_atom_from, closed, nothing, string_from, next_core_token};
 
-use token::{Lexed, Place, Refusal, Token, TokenKind};
+use token::{Class, Refusal, Token, TokenKind};
 
 // What a byte is for outside strings.
-#[derive(Clone, Copy)]
+#[derive(Clone, Copy, Debug, PartialEq, Eq)]
 pub enum CoreClass {
     Layout,
     LParen,
@@ -20,7 +20,7 @@ pub enum CoreClass {
 }
 
 // What a byte inside a string is: `Lead` is the first byte of U+0080 to U+00BF.
-#[derive(Clone, Copy)]
+#[derive(Clone, Copy, Debug, PartialEq, Eq)]
 pub enum StringClass {
     Quote,
     Backslash,
@@ -29,88 +29,64 @@ pub enum StringClass {
     Direct,
 }
 
-// Most bytes of atoms are told first.
+// What a byte is for. Most bytes of atoms are told first.
 pub fn core_class(b: u8) -> CoreClass
     ensures { result ≡ core_class b }
 {
-    if 41 < b {
-        if b <= 126 {
-            return CoreClass::Atom;
-        }
-        return CoreClass::Refused;
-    }
     match b {
-        9 | 10 | 13 | 32 => CoreClass::Layout,
-        34 => CoreClass::Quote,
-        40 => CoreClass::LParen,
-        41 => CoreClass::RParen,
+        42..=126 => CoreClass::Atom,
+        b'\t' | b'\n' | b'\r' | b' ' => CoreClass::Layout,
+        b'"' => CoreClass::Quote,
+        b'(' => CoreClass::LParen,
+        b')' => CoreClass::RParen,
         33..=39 => CoreClass::Atom,
         _ => CoreClass::Refused,
     }
 }
 
-// Small letters, the most frequent, are told first.
+// What a byte of a string is. Small letters, the most frequent, are told first.
 pub fn string_class(b: u8) -> StringClass
     ensures { result ≡ string_class b }
 {
-    if 92 < b {
-        if b < 127 {
-            return StringClass::Direct;
-        }
-    }
     match b {
-        34 => StringClass::Quote,
-        92 => StringClass::Backslash,
+        93..=126 => StringClass::Direct,
+        b'"' => StringClass::Quote,
+        b'\\' => StringClass::Backslash,
+        0..=31 => StringClass::Control,
         127 => StringClass::Control,
         194 => StringClass::Lead,
-        0..=31 => StringClass::Control,
         _ => StringClass::Direct,
     }
 }
 
-fn malformed_at(at: usize) -> Lexed
+fn malformed_at(at: usize) -> Result<Token, Refusal>
     ensures { result ≡ malformed at }
 {
-    Lexed::Refused(Refusal {
-        class: 1,
-        place: Place::At(at),
-    })
+    Err(Refusal::at(Class::Malformed, at))
 }
 
-fn token_of(kind: TokenKind, start: usize, end: usize) -> Lexed
+fn token_of(kind: TokenKind, start: usize, end: usize) -> Result<Token, Refusal>
     ensures { result ≡ token kind start end }
 {
-    Lexed::Got(Token {
-        kind: kind,
-        start: start,
-        end: end,
-    })
+    Ok(Token { kind, start, end })
 }
 
 // The atom that starts at `start`, of which the bytes before `at` are read.
-fn lex_atom(s: &[u8], start: usize, at: usize) -> Lexed
+fn lex_atom(s: &[u8], start: usize, at: usize) -> Result<Token, Refusal>
     ensures { result ≡ core_atom_from start at (drop at s.now) }
 {
-    let mut pos = at;
-    while pos < s.len() {
-        let class = core_class(s[pos]);
-        match class {
-            CoreClass::Atom => {
-                pos += 1;
-            }
-            CoreClass::Refused => {
-                return malformed_at(pos);
-            }
-            _ => {
-                return token_of(TokenKind::Atom, start, pos);
-            }
+    for pos in at..s.len() {
+        match core_class(s[pos]) {
+            CoreClass::Atom => {}
+            CoreClass::Refused => return malformed_at(pos),
+            _ => return token_of(TokenKind::Atom, start, pos),
         }
     }
-    token_of(TokenKind::Atom, start, pos)
+    token_of(TokenKind::Atom, start, at.max(s.len()))
 }
 
 // The string that starts at `start` and is closed by the quote at `at`: an empty one is refused.
-fn close_string(start: usize, at: usize) -> Lexed
+fn close_string(start: usize, at: usize) -> Result<Token, Refusal>
     requires { (start < at) × (at < 18446744073709551615) }
     ensures { result ≡ closed start at }
 {
@@ -124,80 +100,54 @@ fn close_string(start: usize, at: usize) -> Lexed
 fn is_escaped(b: u8) -> bool
     ensures { result ≡ (eqb b 34 || eqb b 92) }
 {
-    b == 34 || b == 92
+    matches!(b, b'"' | b'\\')
 }
 
-// The string that starts at `start`, of which the bytes before `at` are read and nothing stands open.
-fn lex_string(s: &[u8], start: usize, at: usize) -> Lexed
+// The string that starts at `start`, of which the bytes before `at` are read and nothing stands open. An escape and the bytes of
+// U+0080 to U+00BF are passed two at a time, which no range counts.
+fn lex_string(s: &[u8], start: usize, at: usize) -> Result<Token, Refusal>
     requires { start < at }
     ensures { result ≡ string_from start nothing at (drop at s.now) }
 {
     let mut pos = at;
     while pos < s.len() {
-        let class = string_class(s[pos]);
-        match class {
-            StringClass::Direct => {
-                pos += 1;
-            }
-            StringClass::Quote => {
-                return close_string(start, pos);
-            }
-            StringClass::Control => {
-                return malformed_at(pos);
-            }
+        match string_class(s[pos]) {
+            StringClass::Direct => pos += 1,
+            StringClass::Quote => return close_string(start, pos),
+            StringClass::Control => return malformed_at(pos),
             StringClass::Backslash => {
-                let escape = pos;
-                pos += 1;
-                if pos >= s.len() {
-                    return malformed_at(escape);
+                let Some(&b) = s.get(pos + 1) else {
+                    return malformed_at(pos);
+                };
+                if !is_escaped(b) {
+                    return malformed_at(pos);
                 }
-                if !is_escaped(s[pos]) {
-                    return malformed_at(escape);
-                }
-                pos += 1;
+                pos += 2;
             }
-            StringClass::Lead => {
-                let lead = pos;
-                pos += 1;
-                if pos < s.len() {
-                    if s[pos] <= 0x9F {
-                        return malformed_at(lead);
-                    }
-                    pos += 1;
-                }
-            }
+            StringClass::Lead => match s.get(pos + 1) {
+                Some(..=0x9F) => return malformed_at(pos),
+                Some(_) => pos += 2,
+                None => return malformed_at(start),
+            },
         }
     }
     malformed_at(start)
 }
 
 // The first token at or behind `at`.
-pub fn next_core_token(s: &[u8], at: usize) -> Lexed
+pub fn next_core_token(s: &[u8], at: usize) -> Result<Token, Refusal>
     ensures { result ≡ next_core_token s.now at }
 {
-    let mut pos = at;
-    while pos < s.len() {
-        let class = core_class(s[pos]);
-        match class {
-            CoreClass::Layout => {
-                pos += 1;
-            }
-            CoreClass::LParen => {
-                return token_of(TokenKind::LParen, pos, pos + 1);
-            }
-            CoreClass::RParen => {
-                return token_of(TokenKind::RParen, pos, pos + 1);
-            }
-            CoreClass::Quote => {
-                return lex_string(s, pos, pos + 1);
-            }
-            CoreClass::Atom => {
-                return lex_atom(s, pos, pos + 1);
-            }
-            CoreClass::Refused => {
-                return malformed_at(pos);
-            }
+    for pos in at..s.len() {
+        match core_class(s[pos]) {
+            CoreClass::Layout => {}
+            CoreClass::LParen => return token_of(TokenKind::LParen, pos, pos + 1),
+            CoreClass::RParen => return token_of(TokenKind::RParen, pos, pos + 1),
+            CoreClass::Quote => return lex_string(s, pos, pos + 1),
+            CoreClass::Atom => return lex_atom(s, pos, pos + 1),
+            CoreClass::Refused => return malformed_at(pos),
         }
     }
-    token_of(TokenKind::Eof, pos, pos)
+    let end = at.max(s.len());
+    token_of(TokenKind::Eof, end, end)
 }

@@ -5,9 +5,10 @@ use mathlib.Core.List.{List}
 use mathlib.Core.Option.{Option, none, some}
 use Prim.Native.Nat.{ℕ, ◌<◌}
 use native.Mathlib.Omega.{arith}
+use Rattle.std.specs.Prelude.{Ok, Some, None, Err}
 use Rattle.token.specs.declared.Refusal.{Refusal}
 use Rattle.terms.specs.Resolution.{CoreDeclaration}
-use Rattle.dependence.specs.declared.Dependence.{Dependence}
+use Rattle.dependence.specs.Answer.{Dependence}
 use Rattle.dependence.specs.Depends.{type_rows, body_rows, Among, Qualifies, Depends, LowestRow}
 use Rattle.dependence.specs.First.{own_rows, first_naming, shows, first_mention}
 use Rattle.dependence.specs.Asks.{shown}
@@ -18,15 +19,15 @@ use Rattle.dependence.proofs.Earlier.{Earlier}
 use Rattle.dependence.proofs.Showing.{found_shows, shows_found, shows_upwards}
 
 -- What was found, from the answer.
-yes_found : (o : Option ℕ) (r : ℕ) → shown o ≡ Dependence.Yes r → o ≡ some r
+yes_found : (o : Option ℕ) (r : ℕ) → shown o ≡ Ok (Some r) → o ≡ some r
 yes_found none r e = absurd (let z : ◌≡◌ {A = ℕ} 0 1 = cc in omega arith)
 yes_found (some q) r e = let f : q ≡ r = cc in ap some f
 
-no_found : (o : Option ℕ) → shown o ≡ Dependence.No → o ≡ none
+no_found : (o : Option ℕ) → shown o ≡ (Ok None) → o ≡ none
 no_found none e = refl
 no_found (some q) e = absurd (let z : ◌≡◌ {A = ℕ} 0 1 = cc in omega arith)
 
-never_refused : (o : Option ℕ) (r : Refusal) → shown o ≡ Dependence.Refused r → ⊥
+never_refused : (o : Option ℕ) (r : Refusal) → shown o ≡ Err r → ⊥
 never_refused none r e = let z : ◌≡◌ {A = ℕ} 0 1 = cc in omega arith
 never_refused (some q) r e = let z : ◌≡◌ {A = ℕ} 0 1 = cc in omega arith
 
@@ -66,11 +67,11 @@ module _ (m : List CoreDeclaration) (earlier : Earlier m) (i j : ℕ) where
 
   -- As an answer.
   pub says_exactly : (b : Dependence) → (shown (first_mention m i j) ≡ b) ↔ Says m i j b
-  says_exactly (Dependence.Yes r) =
+  says_exactly (Ok (Some r)) =
       let e = shown_exactly (some r) in (λ h. e.0 (yes_found (first_mention m i j) r h), λ h. ap shown (e.1 h))
-  says_exactly Dependence.No =
+  says_exactly (Ok None) =
       let e = shown_exactly none in (λ h. e.0 (no_found (first_mention m i j) h), λ h. ap shown (e.1 h))
-  says_exactly (Dependence.Refused r) = (λ h. never_refused (first_mention m i j) r h, λ h. absurd h)
+  says_exactly (Err r) = (λ h. never_refused (first_mention m i j) r h, λ h. absurd h)
 
   -- What it depends on is earlier.
   pub depends_earlier : Depends m i j → j < i

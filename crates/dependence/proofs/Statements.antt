@@ -1,4 +1,5 @@
 -- The statements of dependence/specs/Statements.antt, proved.
+use Rattle.token.specs.declared.Class.{Class}
 use mathlib.Core.Path.{◌≡◌, refl, sym, ap, ◌∙◌, subst}
 use mathlib.Core.Logic.{◌↔◌}
 use mathlib.Core.Bool.{◌&&◌}
@@ -15,7 +16,7 @@ use Rattle.surface.specs.Reader.{Position, start, Result, done, refused, nowhere
 use Rattle.surface.specs.Reports.{accepted}
 use Rattle.surface.proofs.Steps.{after_elim, require_elim, done_inj}
 use Rattle.surface.specs.Loading.{loading}
-use Rattle.dependence.specs.declared.Dependence.{Dependence}
+use Rattle.dependence.specs.Answer.{Dependence}
 use Rattle.dependence.specs.Depends.{itself}
 use Rattle.dependence.specs.First.{first_mention}
 use Rattle.dependence.specs.Asks.{asking, shown, answer_of, ask, report_dependence}
@@ -54,7 +55,7 @@ asked_earlier : (s : List ℕ) (z : Lengths) (i j : ℕ) (ds : List Declaration)
 unfolding asking
 asked_earlier s z i j ds q e =
     after_elim (loading s z start) _ ds q e (λ ds₁ q₁ f₁ e₁.
-    require_elim (ltb i (length ds₁) && ltb j (length ds₁)) (nowhere 12) q₁ _ ds q e₁ (λ _ e₂.
+    require_elim (ltb i (length ds₁) && ltb j (length ds₁)) (nowhere Class.NoDeclaration) q₁ _ ds q e₁ (λ _ e₂.
     subst (λ (l : List Declaration). Earlier (resolve_module s [] l)) (done_inj e₂).0 (loaded_earlier s z ds₁ q₁ f₁)))
 
 pub answers_exactly : AnswersExactly

@@ -1,3 +1,4 @@
+pub mod Answer
 pub mod Depends
 pub mod First
 pub mod Asks

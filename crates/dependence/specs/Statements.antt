@@ -1,5 +1,5 @@
 -- Statements about the dependence question, each as a type; dependence/proofs/Statements.antt has a proof of each.
-use Rattle.std.specs.Prelude.{◌≡◌, ◌↔◌, ◌⊎◌, true, ◌||◌, List, [], ◌∷◌, ℕ, ◌<◌, ◌≤◌, eqb}
+use Rattle.std.specs.Prelude.{◌≡◌, ◌↔◌, ◌⊎◌, true, ◌||◌, List, [], ◌∷◌, ℕ, ◌<◌, ◌≤◌, eqb, Ok, Some, None, Err}
 use Rattle.std.proofs.Math.Option.{Option, none, some}
 use Rattle.terms.specs.Label.{Declaration}
 use Rattle.terms.specs.Resolution.{CoreDeclaration, resolve_module}
@@ -7,7 +7,7 @@ use Rattle.surface.specs.Reader.{Position, start, Result, done, refused}
 use Rattle.surface.specs.Tables.{Lengths, Tables, lengths}
 use Rattle.surface.specs.Reports.{Report, accepted, report_refusal}
 use Rattle.surface.specs.Loading.{loading}
-use Rattle.dependence.specs.declared.Dependence.{Dependence}
+use Rattle.dependence.specs.Answer.{Dependence}
 use Rattle.dependence.specs.Depends.{type_rows, body_rows, Among, Shows, Qualifies, Depends, LowestRow}
 use Rattle.dependence.specs.First.{counted_rows, first_naming, is_found, shows, first_mention}
 use Rattle.dependence.specs.Asks.{asking, Asks, report_dependence}
@@ -43,9 +43,9 @@ NoneExactly = (m : List CoreDeclaration) → Accepted m → (i j : ℕ) → (fir
 
 -- The same of any call that is not refused, with tables of any lengths: what each answer says, and that no other is given.
 abbrev pub Says : List CoreDeclaration → ℕ → ℕ → Dependence → Type 0
-Says m i j (Dependence.Yes r) = LowestRow m i j r
-Says m i j Dependence.No = ¬ Depends m i j
-Says m i j (Dependence.Refused r) = ⊥
+Says m i j (Ok (Some r)) = LowestRow m i j r
+Says m i j (Ok None) = ¬ Depends m i j
+Says m i j (Err r) = ⊥
 
 abbrev pub AnswersExactly : Type 0
 AnswersExactly =

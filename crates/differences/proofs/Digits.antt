@@ -1,12 +1,11 @@
 -- The number of a few bytes determines them, and fits 64 bits.
-use Prim.Native.Nat.{ℕ, zero, suc, ◌+◌, ◌-◌, ◌*◌, ◌≤◌, ◌<◌}
+use Prim.Native.Nat.{ℕ, zero, suc, ◌+◌, ◌*◌, ◌≤◌, ◌<◌}
 use mathlib.Core.Path.{◌≡◌, refl, sym, ◌∙◌, ap}
 use mathlib.Core.Logic.{◌⊎◌, inl, inr, ⊎_elim}
-use mathlib.Core.List.{List, [], ◌∷◌}
+use mathlib.Core.List.{List, [], ◌∷◌, ◌++◌}
 use native.Mathlib.Omega.{arith}
-use lib.ListN.{length, get_or, take, drop, length-drop}
+use lib.ListN.{length, get_or, take, drop}
 use lib.Seq.{get_or-drop}
-use Rattle.token.proofs.Runs.{drop_next}
 use Rattle.differences.specs.inner.Digits.{digits}
 
 -- What is known of the bytes of a slice.
@@ -54,19 +53,27 @@ power_above : (n : ℕ) → n < power n
 power_above zero = omega arith
 power_above (suc n) = omega (arith, power_above n)
 
-below : (first n : ℕ) (l : List ℕ) → Bytes l → first ≤ 1 → first + length l ≤ n → digits first l < power n
+pub below : (first n : ℕ) (l : List ℕ) → Bytes l → first ≤ 1 → first + length l ≤ n → digits first l < power n
 unfolding digits
 below first n [] p f h = omega (arith, power_above n)
 below first zero (b ∷ l) p f h = absurd (omega arith)
 below first (suc n) (b ∷ l) p f h = let low = p 0 in omega (arith, below first n l (λ i. p (suc i)) f (omega arith))
 
--- One more byte, in front of those from i on.
-module _ (first : ℕ) (w : List ℕ) (p : Bytes w) (i : ℕ) (pos : 0 < i) (h : i ≤ length w) (n : ℕ) (e : n ≡ digits first (drop i w)) where
-  pub number_more : n * 256 + get_or w (i - 1) 0 ≡ digits first (drop (i - 1) w)
-  unfolding digits
-  number_more =
-      let q : i - 1 + 1 ≡ i = omega arith in
-      sym (rw q at (ap (digits first) (drop_next w (i - 1) (omega arith))) ∙ ap (λ k. k * 256 + get_or w (i - 1) 0) (sym e))
+-- The last byte of a list is the first of those behind the first digit.
+digits_last : (n b : ℕ) (l : List ℕ) → digits n (l ++ (b ∷ [])) ≡ digits (n * 256 + b) l
+unfolding digits
+digits_last n b [] = refl
+digits_last n b (x ∷ l) = ap (λ k. k * 256 + x) (digits_last n b l)
 
-  pub number_fits : first ≤ 1 → first + length w ≤ 8 → n * 256 + get_or w (i - 1) 0 < power 8
-  number_fits f s = rw number_more (below first 8 (drop (i - 1) w) (bytes_drop w p (i - 1)) f (omega (arith, length-drop (i - 1) w)))
+-- One more byte, behind those that are left.
+module _ (n b k : ℕ) (l m : List ℕ) (e : l ≡ m ++ (b ∷ [])) (h : digits n l ≡ k) where
+  pub number_more : digits (n * 256 + b) m ≡ k
+  number_more = sym (digits_last n b m) ∙ ap (digits n) (sym e) ∙ h
+
+  pub number_fits : k < power 8 → n * 256 + b < power 8
+  number_fits f = omega (arith, number_more, first_least (n * 256 + b) m)
+
+pub number_none : (n k : ℕ) (l : List ℕ) → length l ≡ 0 → digits n l ≡ k → n ≡ k
+unfolding digits
+number_none n k [] z h = h
+number_none n k (b ∷ l) z h = absurd (omega arith)

@@ -15,11 +15,8 @@ pub fn number(first: u64, w: &[u8]) -> u64
     ensures { result ≡ digits first w.now }
 {
     let mut number = first;
-    let mut i = w.len();
-    while 0 < i {
-        i -= 1;
-        let byte = w[i] as u64;
-        number = number * 256 + byte;
+    for byte in w.iter().rev() {
+        number = number * 256 + u64::from(*byte);
     }
     number
 }
@@ -29,15 +26,16 @@ fn shared_blocks(a: &[u8], b: &[u8]) -> usize
     requires { length a.now ≡ length b.now }
     ensures { Shared a.now b.now result }
 {
-    let n = a.len();
-    let mut i = 0;
-    while BLOCK <= n - i {
-        if number(0, &a[i..i + BLOCK]) != number(0, &b[i..i + BLOCK]) {
-            return i;
+    let mut shared = 0;
+    // The loop then sees that both are of one length, and one test ends it.
+    let b = &b[..a.len()];
+    for (x, y) in a.chunks_exact(BLOCK).zip(b.chunks_exact(BLOCK)) {
+        if number(0, x) != number(0, y) {
+            return shared;
         }
-        i += BLOCK;
+        shared += BLOCK;
     }
-    i
+    shared
 }
 
 // The first place where two names of one length differ; their length where there is none. Often the first byte tells.
@@ -46,17 +44,13 @@ pub fn first_difference(a: &[u8], b: &[u8]) -> usize
     ensures { result ≡ first_difference a.now b.now }
 {
     let n = a.len();
-    if 0 < n {
-        if a[0] != b[0] {
-            return 0;
-        }
+    if 0 < n && a[0] != b[0] {
+        return 0;
     }
-    let mut i = shared_blocks(a, b);
-    while i < n {
+    for i in shared_blocks(a, b)..n {
         if a[i] != b[i] {
             return i;
         }
-        i += 1;
     }
     n
 }

@@ -1,4 +1,6 @@
 -- The loop of `elaborate_surface`: what all declarations come to is what the rest comes to.
+use Rattle.token.specs.declared.Class.{Class}
+use Rattle.std.specs.Prelude.{Ok, Err}
 use Prim.Native.Nat.{ℕ, ◌+◌, ◌*◌, ◌≤◌, ◌<◌}
 use mathlib.Core.Path.{◌≡◌, refl, sym, ◌∙◌, ap, ap₂, subst}
 use mathlib.Core.List.{List, [], ◌∷◌, ◌++◌, map}
@@ -15,8 +17,8 @@ use Rattle.terms.proofs.Spans.{resolve_next}
 use Rattle.terms.proofs.Widths.{wide_core, total_surface, total_core}
 use Rattle.scope.specs.Scope.{declared_names}
 use Rattle.elaborate.specs.Loadable.{Loadable, ElaboratesTo, Elaborates}
-use Rattle.elaborate.specs.Declarations.{ModuleOutcome, resolved, refused, module_outcome, declaration_outcome, Declared}
-use Rattle.elaborate.specs.declared.Elaborated.{Elaborated}
+use Rattle.elaborate.specs.Declarations.{name_refused, ModuleOutcome, resolved, refused, module_outcome, declaration_outcome, Declared}
+use Rattle.elaborate.specs.declared.RefusedName as declared
 use Rattle.elaborate.proofs.TableRows.{stored_rows, stored_append, stored_words}
 use Rattle.elaborate.proofs.TreeRows.{settled}
 use Rattle.elaborate.proofs.ModuleRows.{Held, loaded, declaration_comes, one_more_name}
@@ -26,9 +28,9 @@ unfoldable pub all_come : List ℕ → List Name → ℕ → List Declaration �
 all_come s globals k [] core = resolved core
 all_come s globals k (d ∷ l) core =
     elim (find (declared_name s d) globals) [
-      | some i ↦ refused (refused_name 4 d.start d.length)
+      | some i ↦ refused (refused_name Class.DuplicateName d.start d.length)
       | none ↦ elim (first_unknown (resolve_declaration s globals d)) [
-        | some u ↦ refused (refused_name 5 u.start u.length)
+        | some u ↦ refused (refused_name Class.UnknownName u.start u.length)
         | none ↦ all_come s (globals ++ (declared_name s d ∷ [])) (next k (trees d)) l (stored_rows core k (map core_row (cells k (resolve_declaration s globals d))))
       ]
     ]
@@ -71,29 +73,25 @@ all_concluded s globals k (d ∷ l) core = go (find (declared_name s d) globals)
 
     go : (a : Option ℕ) (b : Option Label) → rest ≡ concluded (first_refused s more l) table
         → ◌≡◌ {A = ModuleOutcome} (elim a as (λ _. ModuleOutcome) [
-          | some i ↦ refused (refused_name 4 d.start d.length)
-          | none ↦ elim b as (λ _. ModuleOutcome) [ some u ↦ refused (refused_name 5 u.start u.length) | none ↦ rest ]
+          | some i ↦ refused (refused_name Class.DuplicateName d.start d.length)
+          | none ↦ elim b as (λ _. ModuleOutcome) [ some u ↦ refused (refused_name Class.UnknownName u.start u.length) | none ↦ rest ]
         ])
         (concluded (elim a as (λ _. Option RefusedName) [
-          | some i ↦ some (refused_name 4 d.start d.length)
-          | none ↦ elim b as (λ _. Option RefusedName) [ some u ↦ some (refused_name 5 u.start u.length) | none ↦ first_refused s more l ]
+          | some i ↦ some (refused_name Class.DuplicateName d.start d.length)
+          | none ↦ elim b as (λ _. Option RefusedName) [ some u ↦ some (refused_name Class.UnknownName u.start u.length) | none ↦ first_refused s more l ]
         ]) table)
     go (some i) b e = refl
     go none (some u) e = refl
     go none none e = e
 
 -- Inversions of a declaration's answer.
-when_done : (o : ModuleOutcome) (r : Elaborated) (core : List ℕ) → Declared o r core → r ≡ Elaborated.Done → o ≡ resolved core
-when_done (resolved c) r core h e = ap resolved (sym h.1)
-when_done (refused x) r core h e = absurd (let z : ◌≡◌ {A = ℕ} 0 1 = cc in omega arith)
+when_done : (o : ModuleOutcome) (core : List ℕ) → Declared o (Ok tt) core → o ≡ resolved core
+when_done (resolved c) core h = ap resolved (sym h.1)
+when_done (refused x) core h = absurd (cc)
 
-when_refused : (o : ModuleOutcome) (r : Elaborated) (core : List ℕ) (class a n : ℕ) → Declared o r core → r ≡ Elaborated.Refused class a n → o ≡ refused (refused_name class a n)
-when_refused (resolved c) r core class a n h e = absurd (let z : ◌≡◌ {A = ℕ} 0 1 = cc in omega arith)
-when_refused (refused x) r core class a n h e =
-    let p : x.class ≡ class = cc in
-    let q : x.start ≡ a = cc in
-    let w : x.length ≡ n = cc in
-    λ i. refused (refused_name (p i) (q i) (w i))
+when_refused : (o : ModuleOutcome) (x : declared.RefusedName) (core : List ℕ) → Declared o (Err x) core → o ≡ refused (refused_name x.class x.start x.length)
+when_refused (resolved c) x core h = absurd (cc)
+when_refused (refused y) x core h = ap (λ (z : declared.RefusedName). refused (refused_name z.class z.start z.length)) (let e : name_refused y ≡ x = cc in e)
 
 abbrev then_rest : ModuleOutcome → (List ℕ → ModuleOutcome) → ModuleOutcome
 then_rest (resolved c) f = f c
@@ -134,16 +132,16 @@ module _ (s surface declarations : List ℕ) (rows count : ℕ) (core₀ : List 
 
         go : (a : Option ℕ) (b : Option Label)
             → ◌≡◌ {A = ModuleOutcome} (elim a as (λ _. ModuleOutcome) [
-              | some i ↦ refused (refused_name 4 x.start x.length)
-              | none ↦ elim b as (λ _. ModuleOutcome) [ some u ↦ refused (refused_name 5 u.start u.length) | none ↦ later k x l table ]
+              | some i ↦ refused (refused_name Class.DuplicateName x.start x.length)
+              | none ↦ elim b as (λ _. ModuleOutcome) [ some u ↦ refused (refused_name Class.UnknownName u.start u.length) | none ↦ later k x l table ]
             ])
-            (then_rest (elim a as (λ _. ModuleOutcome) [ some i ↦ refused (refused_name 4 x.start x.length) | none ↦ module_outcome (settled b table) ]) (later k x l))
+            (then_rest (elim a as (λ _. ModuleOutcome) [ some i ↦ refused (refused_name Class.DuplicateName x.start x.length) | none ↦ module_outcome (settled b table) ]) (later k x l))
         go (some i) b = refl
         go none (some u) = refl
         go none none = refl
 
-    pub one_done : (r : Elaborated) → Remaining d core → d < count → Declared outcome r core₁ → r ≡ Elaborated.Done → Remaining (d + 1) core₁
-    one_done r m b h e = go m.rest m.there m.many m.same
+    pub one_done : Remaining d core → d < count → Declared outcome (Ok tt) core₁ → Remaining (d + 1) core₁
+    one_done m b h = go m.rest m.there m.many m.same
       where
         go : (l : List Declaration) → Held surface declarations rows d m.row l → d + length l ≡ count
             → all_come s [] 0 ds core₀ ≡ all_come s (declared_names s declarations 0 d) m.row l core → Remaining (d + 1) core₁
@@ -154,18 +152,18 @@ module _ (s surface declarations : List ℕ) (rows count : ℕ) (core₀ : List 
           there = subst (λ (i : ℕ). Held surface declarations rows i (next m.row (trees x)) l) (sym (add-one d)) t.5;
           many = omega arith;
           same =
-              q ∙ one_step m.row x l t ∙ ap (λ (o : ModuleOutcome). then_rest o (later m.row x l)) (when_done outcome r core₁ h e)
+              q ∙ one_step m.row x l t ∙ ap (λ (o : ModuleOutcome). then_rest o (later m.row x l)) (when_done outcome core₁ h)
               ∙ ap (λ (g : List Name). all_come s g (next m.row (trees x)) l core₁) (one_more_name s surface declarations rows d m.row x l t);
         }
 
-    pub one_refused : (r : Elaborated) (class a n : ℕ) → Remaining d core → d < count → Declared outcome r core₁ → r ≡ Elaborated.Refused class a n
-        → all_come s [] 0 ds core₀ ≡ refused (refused_name class a n)
-    one_refused r class a n m b h e = go m.rest m.there m.many m.same
+    pub one_refused : (y : declared.RefusedName) → Remaining d core → d < count → Declared outcome (Err y) core₁
+        → all_come s [] 0 ds core₀ ≡ refused (refused_name y.class y.start y.length)
+    one_refused y m b h = go m.rest m.there m.many m.same
       where
         go : (l : List Declaration) → Held surface declarations rows d m.row l → d + length l ≡ count
-            → all_come s [] 0 ds core₀ ≡ all_come s (declared_names s declarations 0 d) m.row l core → all_come s [] 0 ds core₀ ≡ refused (refused_name class a n)
+            → all_come s [] 0 ds core₀ ≡ all_come s (declared_names s declarations 0 d) m.row l core → all_come s [] 0 ds core₀ ≡ refused (refused_name y.class y.start y.length)
         go [] t c q = absurd (omega arith)
-        go (x ∷ l) t c q = q ∙ one_step m.row x l t ∙ ap (λ (o : ModuleOutcome). then_rest o (later m.row x l)) (when_refused outcome r core₁ class a n h e)
+        go (x ∷ l) t c q = q ∙ one_step m.row x l t ∙ ap (λ (o : ModuleOutcome). then_rest o (later m.row x l)) (when_refused outcome y core₁ h)
 
   pub all_done : (d : ℕ) (core : List ℕ) → Remaining d core → count ≤ d → all_come s [] 0 ds core₀ ≡ resolved core
   unfolding all_come
@@ -179,13 +177,13 @@ module _ (s surface declarations : List ℕ) (rows count : ℕ) (core₀ : List 
   abbrev table : List ℕ
   table = stored_rows core₀ 0 (core_rows 0 (resolve_module s [] ds))
 
-  pub elaborates_done : {work : List ℕ} (core : List ℕ) → Loadable surface declarations core₀ work rows count ds → all_come s [] 0 ds core₀ ≡ resolved core → Elaborates s ds rows core₀ Elaborated.Done core
+  pub elaborates_done : {work : List ℕ} (core : List ℕ) → Loadable surface declarations core₀ work rows count ds → all_come s [] 0 ds core₀ ≡ resolved core → Elaborates s ds rows core₀ (Ok tt) core
   elaborates_done core h e = go (first_refused s [] ds) (sym (all_concluded s [] 0 ds core₀) ∙ e)
     where
       many : 0 + length (core_rows 0 (resolve_module s [] ds)) ≡ rows
       many = omega (arith, total_surface 0 ds, total_core s [] 0 ds, h.all_rows)
 
-      go : (o : Option RefusedName) → concluded o table ≡ resolved core → ElaboratesTo o s ds rows core₀ Elaborated.Done core
+      go : (o : Option RefusedName) → concluded o table ≡ resolved core → ElaboratesTo o s ds rows core₀ (Ok tt) core
       go none q =
           let c : table ≡ core = cc in
           let w = stored_words core₀ 0 (core_rows 0 (resolve_module s [] ds)) (wide_core 0 (resolve_module s [] ds)) (omega (arith, many, h.room)) in (
@@ -195,11 +193,11 @@ module _ (s surface declarations : List ℕ) (rows count : ℕ) (core₀ : List 
           )
       go (some x) q = absurd (let z : ◌≡◌ {A = ℕ} 0 1 = cc in omega arith)
 
-  pub elaborates_refused : (core : List ℕ) (class a n : ℕ) (r : Elaborated) → r ≡ Elaborated.Refused class a n → all_come s [] 0 ds core₀ ≡ refused (refused_name class a n) → Elaborates s ds rows core₀ r core
-  elaborates_refused core class a n r p e = go (first_refused s [] ds) (sym (all_concluded s [] 0 ds core₀) ∙ e)
+  pub elaborates_refused : (core : List ℕ) (y : declared.RefusedName) → all_come s [] 0 ds core₀ ≡ refused (refused_name y.class y.start y.length) → Elaborates s ds rows core₀ (Err y) core
+  elaborates_refused core y e = go (first_refused s [] ds) (sym (all_concluded s [] 0 ds core₀) ∙ e)
     where
-      go : (o : Option RefusedName) → concluded o table ≡ refused (refused_name class a n) → ElaboratesTo o s ds rows core₀ r core
-      go none q = absurd (let z : ◌≡◌ {A = ℕ} 0 1 = cc in omega arith)
+      go : (o : Option RefusedName) → concluded o table ≡ refused (refused_name y.class y.start y.length) → ElaboratesTo o s ds rows core₀ (Err y) core
+      go none q = absurd (cc)
       go (some x) q =
-          let f : refused_name class a n ≡ x = cc in
-          p ∙ ap (λ (y : RefusedName). Elaborated.Refused y.class y.start y.length) f
+          let f : refused_name y.class y.start y.length ≡ x = cc in
+          ap (λ (z : RefusedName). Err (name_refused z)) f

@@ -1,4 +1,5 @@
 -- Declarations held by the tables from a place and a row on, and what each comes to.
+use Rattle.token.specs.declared.Class.{Class}
 use Prim.Native.Nat.{ℕ, zero, suc, ◌+◌, ◌*◌, ◌≤◌, ◌<◌}
 use mathlib.Core.Path.{◌≡◌, refl, sym, ◌∙◌, ap, ap₂, subst}
 use mathlib.Core.List.{List, [], ◌∷◌, ◌++◌, map}
@@ -138,7 +139,7 @@ module _ (s surface declarations : List ℕ) (rows d : ℕ) where
   pub declaration_comes : (k : ℕ) (x : Declaration) (l : List Declaration) (core : List ℕ) → Held surface declarations rows d k (x ∷ l)
       → declaration_outcome s surface declarations rows d core
       ≡ elim (find (declared_name s x) globals) [
-        | some i ↦ refused (refused_name 4 x.start x.length)
+        | some i ↦ refused (refused_name Class.DuplicateName x.start x.length)
         | none ↦ module_outcome (settled (first_unknown (resolve_declaration s globals x)) (core_table k x core))
       ]
   unfolding declaration_outcome
@@ -149,7 +150,7 @@ module _ (s surface declarations : List ℕ) (rows d : ℕ) where
       let parts = parts_come k x _ _ _ core (first_word_of 5 declarations d (read_record k x) h.0 (omega arith)) h.4 (word 3 (omega arith)) (word 4 (omega arith))
       ∙ comes s surface declarations rows d (trees x) 512 k (λ i. []) core h.1 h.2 h.3 in
       λ i. elim (find (part s (a i) (n i)) globals) as (λ _. ModuleOutcome) [
-        | some j ↦ refused (refused_name 4 (a i) (n i))
+        | some j ↦ refused (refused_name Class.DuplicateName (a i) (n i))
         | none ↦ module_outcome (parts i)
       ]
 

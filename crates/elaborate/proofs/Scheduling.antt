@@ -1,8 +1,8 @@
 -- A form's arguments pushed as work items, the last first.
-use Prim.Native.Nat.{ℕ, suc, ◌+◌, ◌-◌, ◌≤◌, ◌<◌}
+use Prim.Native.Nat.{ℕ, suc, ◌-◌, ◌≤◌, ◌<◌}
 use mathlib.Core.Path.{◌≡◌, refl, sym, ◌∙◌, ap, ap₂}
 use mathlib.Core.List.{List, [], ◌∷◌}
-use mathlib.Core.Bool.{Bool, true, false}
+use mathlib.Core.Bool.{Bool}
 use native.Mathlib.Omega.{arith}
 use lib.ListN.{length, get_or, take, drop}
 use lib.Seq.{drop-cons, get_or-take, length-take-le, drop-length}
@@ -21,20 +21,6 @@ then_pushed f p q = record {
 
 pub none_pushed : (w : List ℕ) (t : ℕ) → WorkPushed w w t (works_in w t)
 none_pushed w t = record { works = refl; values = λ v h. refl; locals = λ s l h. refl }
-
--- A covered argument is three items, any other is one.
-module _ {w : List ℕ} (t form left id : ℕ) (covered : Bool) where
-  pub one_covered : {w₁ w₂ w₃ : List ℕ} → covered ≡ true → WorkPushed w w₁ (t + 1) (Work.PopLocal ∷ works_in w t)
-      → WorkPushed w₁ w₂ (t + 1 + 1) (Work.Eval id left ∷ works_in w₁ (t + 1)) → WorkPushed w₂ w₃ (t + 2 + 1) (Work.PushLocal form ∷ works_in w₂ (t + 2))
-      → WorkPushed w w₃ (t + 3) (scheduled_one covered form left id (works_in w t))
-  one_covered e p q r =
-      let x : t + 1 + 1 ≡ t + 2 = omega arith in
-      let y : t + 2 + 1 ≡ t + 3 = omega arith in
-      rw e (then_pushed (λ l. Work.PushLocal form ∷ l) (then_pushed (λ l. Work.Eval id left ∷ l) p (rw x at q)) (rw y at r))
-
-  pub one_plain : {w₁ : List ℕ} → covered ≡ false → WorkPushed w w₁ (t + 1) (Work.Eval id left ∷ works_in w t)
-      → WorkPushed w w₁ (t + 1) (scheduled_one covered form left id (works_in w t))
-  one_plain e p = rw e p
 
 module _ (w : List ℕ) (t k form left : ℕ) (children : List ℕ) (m : ℕ) (six : length children ≡ 6) (few : m ≤ 6) where
   -- The arguments from i on are pushed.
@@ -62,11 +48,3 @@ module _ (w : List ℕ) (t k form left : ℕ) (children : List ℕ) (m : ℕ) (s
       drop-cons l j 0 (omega (arith, long)) ∙ ap₂ (λ (x u : ℕ). x ∷ drop u l) (get_or-take m children j 0 (omega arith)) back in
       let tail = ap (λ (u : ℕ). scheduled k form left u (drop i l) (works_in w t)) (sym back) in
       rw (z, ← e) (then_pushed (scheduled_one covered form left id) (rw tail at p) g)
-
-  pub pushed_all : (w₁ : List ℕ) (i top : ℕ) → i ≡ 0 → Pushed w₁ i top → WorkPushed w w₁ top (scheduled k form left 0 (take m children) (works_in w t))
-  pushed_all w₁ i top e p = rw e at p
-
--- The arguments on top of the form's Build.
-pub form_pushed : {w w₁ w₂ : List ℕ} {r : ℕ} (t k j j' left id : ℕ) (ids ids' : List ℕ) → j ≡ j' → ids ≡ ids' → WorkPushed w w₁ (t + 1) (Work.Build j id ∷ works_in w t)
-    → WorkPushed w₁ w₂ r (scheduled k id left 0 ids (works_in w₁ (t + 1))) → WorkPushed w w₂ r (scheduled k id left 0 ids' (Work.Build j' id ∷ works_in w t))
-form_pushed t k j j' left id ids ids' f e p q = rw (← f) (then_pushed (scheduled k id left 0 ids') p (rw e at q))

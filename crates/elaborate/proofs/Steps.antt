@@ -1,4 +1,5 @@
 -- Each work item's step: it comes to the same, there is less to do, and room for it.
+use Rattle.std.specs.Prelude.{Result, Ok, Err}
 use Prim.Native.Nat.{ℕ, zero, suc, ◌+◌, ◌-◌, ◌*◌, ◌≤◌, ◌<◌}
 use mathlib.Core.Path.{◌≡◌, refl, sym, ◌∙◌, ap, ap₂, subst}
 use mathlib.Core.List.{List, [], ◌∷◌, ◌++◌, map}
@@ -21,7 +22,7 @@ use Rattle.stacks.proofs.Decoding.{length_works, length_values, values_below}
 use Rattle.elaborate.specs.RowTerm.{row_word, label_at, children_at, TermOutcome, done, unknown_at, and_then, arguments, core_at, visit, row_term}
 use Rattle.elaborate.specs.Machine.{form_words, outer, scheduled, run, Room, weight, RowDone, ReferenceDone, without_arguments, form_row, outcome, Went, WorkStepped}
 use Rattle.elaborate.specs.declared.State.{State}
-use Rattle.elaborate.specs.declared.WorkStep.{WorkStep}
+use Rattle.elaborate.specs.declared.UnknownName.{UnknownName}
 use Rattle.elaborate.proofs.Visiting.{row_visit, visit_out, visit_unknown, visit_known, visit_leaf, inner}
 use Rattle.elaborate.proofs.Running.{run_row, run_unknown, run_form, length_children}
 use Rattle.elaborate.proofs.Rooms.{items, items_few, length_scheduled, room_scheduled, weight_positive, form_less}
@@ -69,10 +70,6 @@ module _ (s surface declarations : List ℕ) (rows d : ℕ) (core work : List �
   pub as_state : {items : List Work} {st₁ st₂ : State} {core₁ work₁ : List ℕ} → st₁ ≡ st₂ → W items st₂ core₁ work₁ → W items st₁ core₁ work₁
   as_state {items} {st₁} {st₂} {core₁} {work₁} e h = subst (λ (x : State). W items x core₁ work₁) (sym e) h
 
-  pub stopped : (items : List Work) (step : WorkStep) (core₁ work₁ : List ℕ) (a n : ℕ) → step ≡ WorkStep.Unknown a n → outcome s surface declarations rows d items work st core ≡ unknown_at a n
-      → WorkStepped s surface declarations rows d items work st core step core₁ work₁
-  stopped items step core₁ work₁ a n e h = subst (λ (x : WorkStep). WorkStepped s surface declarations rows d items work st core x core₁ work₁) (sym e) h
-
   module _ (id left : ℕ) (room : Room (Work.Eval id left ∷ works) st.values st.locals) where
     abbrev R : TermOutcome
     R = row_term s surface declarations rows d left id locals core
@@ -111,15 +108,15 @@ module _ (s surface declarations : List ℕ) (rows d : ℕ) (core work : List �
       abbrev k : ℕ
       k = get_or surface (id * 8) 0
 
-      pub reference_stepped : (step : WorkStep) (core₁ work₁ : List ℕ) → k ≡ ref
+      pub reference_stepped : (step : Result State UnknownName) (core₁ work₁ : List ℕ) → k ≡ ref
           → ReferenceDone (core_at s surface declarations rows d id locals) (label_at surface id) id st core work step core₁ work₁
           → WorkStepped s surface declarations rows d (Work.Eval id left ∷ works) work st core step core₁ work₁
-      reference_stepped (WorkStep.Go st₁) core₁ work₁ e h =
+      reference_stepped (Ok st₁) core₁ work₁ e h =
           finished _ st₁ core₁ work₁
           (visits ∙ visit_leaf s surface declarations rows d Q id locals core (lt-ltb id rows there) h.0 (ap arity_of e ∙ arity_ref))
           h.1
-      reference_stepped (WorkStep.Unknown a n) core₁ work₁ e h =
-          stops a n
+      reference_stepped (Err u) core₁ work₁ e h =
+          stops u.start u.length
           (visits ∙ visit_unknown s surface declarations rows d Q id locals core (lt-ltb id rows there) h.0
           ∙ ap₂ unknown_at (sym h.1) (sym h.2))
 
@@ -228,34 +225,24 @@ module _ (s surface declarations : List ℕ) (rows d : ℕ) (core work : List �
   }
 
 -- The state without the item on top.
-abbrev below : State → State
+abbrev pub below : State → State
 below st = record { works = st.works - 1; values = st.values; locals = st.locals }
 
-pub top_fits : (st st' : State) → st' ≡ below st → st'.works ≡ st.works - 1
-top_fits st st' q = ap (λ (x : State). x.works) q
-
 -- The item on top of the others.
-pub top_item : (w : List ℕ) (st st' : State) (r item : Work) → 0 < st.works → st' ≡ below st → works_in w (st'.works + 1) ≡ r ∷ works_in w st'.works → r ≡ item
-    → works_in w st.works ≡ item ∷ works_in w st'.works
-top_item w st st' r item h q e i =
-    let x = top_fits st st' q in
-    ap (works_in w) (let z : st.works ≡ st'.works + 1 = omega arith in z) ∙ e ∙ ap (λ (x : Work). x ∷ works_in w st'.works) i
+pub top_item : (w : List ℕ) (st : State) (item : Work) → 0 < st.works → works_in w (st.works - 1 + 1) ≡ item ∷ works_in w (st.works - 1)
+    → works_in w st.works ≡ item ∷ works_in w (st.works - 1)
+top_item w st item h e = ap (works_in w) (let z : st.works ≡ st.works - 1 + 1 = omega arith in z) ∙ e
 
-pub top_room : (works items : List Work) (st st' : State) → works ≡ items → st' ≡ below st → Room works st.values st.locals → Room items st'.values st'.locals
-top_room works items st st' e q r =
-    subst (λ (y : State). Room items y.values y.locals) (sym q) (subst (λ (x : List Work). Room x st.values st.locals) e r)
+module _ (s surface declarations : List ℕ) (rows d : ℕ) (core work : List ℕ) (st : State) (items : List Work) (e : works_in work st.works ≡ items) where
+  pub top_room : Room (works_in work st.works) st.values st.locals → Room items st.values st.locals
+  top_room r = subst (λ (x : List Work). Room x st.values st.locals) e r
 
-module _ (s surface declarations : List ℕ) (rows d : ℕ) (core work : List ℕ) (st st' : State) (q : st' ≡ below st) where
-  same_outcome : (items : List Work) → outcome s surface declarations rows d items work st core ≡ outcome s surface declarations rows d items work st' core
-  same_outcome items = ap (λ (x : State). outcome s surface declarations rows d items work x core) (sym q)
-
-  pub top_stepped : (items : List Work) (step : WorkStep) (core₁ work₁ : List ℕ) → works_in work st.works ≡ items → WorkStepped s surface declarations rows d items work st' core step core₁ work₁
+  pub top_stepped : (step : Result State UnknownName) (core₁ work₁ : List ℕ) → WorkStepped s surface declarations rows d items work (below st) core step core₁ work₁
       → WorkStepped s surface declarations rows d (works_in work st.works) work st core step core₁ work₁
-  top_stepped items (WorkStep.Go st₁) core₁ work₁ e h = record {
-    same = ap (λ (x : List Work). outcome s surface declarations rows d x work st core) e ∙ same_outcome items ∙ h.same;
+  top_stepped (Ok st₁) core₁ work₁ h = record {
+    same = ap (λ (x : List Work). outcome s surface declarations rows d x work st core) e ∙ h.same;
     less = subst (λ (x : List Work). weight (works_in work₁ st₁.works) < weight x) (sym e) h.less;
     room = h.room;
     fits = h.fits;
   }
-  top_stepped items (WorkStep.Unknown a n) core₁ work₁ e h =
-      ap (λ (x : List Work). outcome s surface declarations rows d x work st core) e ∙ same_outcome items ∙ h
+  top_stepped (Err u) core₁ work₁ h = ap (λ (x : List Work). outcome s surface declarations rows d x work st core) e ∙ h

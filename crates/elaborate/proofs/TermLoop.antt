@@ -1,4 +1,5 @@
 -- The loop of `elaborate_term`: the whole outcome is what the state and the tables come to.
+use Rattle.std.specs.Prelude.{Ok}
 use Prim.Native.Nat.{ℕ, ◌+◌, ◌≤◌}
 use mathlib.Core.Path.{◌≡◌, refl, sym, ◌∙◌, ap, subst}
 use mathlib.Core.List.{List, [], ◌∷◌}
@@ -8,10 +9,8 @@ use Rattle.scope.specs.Scope.{in_scope}
 use Rattle.stacks.specs.Stacks.{works_in, values_in, WorkPushed}
 use Rattle.stacks.specs.declared.Work.{Work}
 use Rattle.elaborate.specs.RowTerm.{TermOutcome, done, unknown_at, and_then, row_term}
-use Rattle.elaborate.specs.Machine.{run, Room, RowsInside, outcome, Went, WorkStepped, Answered}
+use Rattle.elaborate.specs.Machine.{run, Room, RowsInside, outcome, Answered}
 use Rattle.elaborate.specs.declared.State.{State}
-use Rattle.elaborate.specs.declared.WorkStep.{WorkStep}
-use Rattle.elaborate.specs.declared.TermDone.{TermDone}
 
 module _ (s surface declarations index : List ℕ) (rows d root : ℕ) (core₀ : List ℕ) where
   abbrev whole : TermOutcome
@@ -38,27 +37,7 @@ module _ (s surface declarations index : List ℕ) (rows d root : ℕ) (core₀ 
     inside = record { area = omega (arith, i.area); read = i.read; few = i.few; indexed = i.indexed };
   }
 
-  module _ (core work : List ℕ) (st : State) (e : Elaborating core work st) where
-    module _ (r : WorkStep) (core₁ work₁ : List ℕ) (h : WorkStepped s surface declarations rows d (works_in work st.works) work st core r core₁ work₁) where
-      pub went : (st₁ : State) → r ≡ WorkStep.Go st₁ → Went s surface declarations rows d (works_in work st.works) work st core st₁ core₁ work₁
-      went st₁ q = subst (λ (x : WorkStep). WorkStepped s surface declarations rows d (works_in work st.works) work st core x core₁ work₁) q h
-
-      pub goes_on : (st₁ : State) → r ≡ WorkStep.Go st₁ → length work₁ ≡ length work → Elaborating core₁ work₁ st₁
-      goes_on st₁ q n =
-          let w = went st₁ q in
-          record {
-            same = e.same ∙ w.same;
-            room = w.room;
-            fits = w.fits;
-            inside = record { area = omega (arith, e.inside.area); read = e.inside.read; few = e.inside.few; indexed = e.inside.indexed };
-          }
-
-      pub stops : (a n : ℕ) → r ≡ WorkStep.Unknown a n → Answered whole (TermDone.Unknown a n) core₁
-      stops a n q =
-          let u : outcome s surface declarations rows d (works_in work st.works) work st core ≡ unknown_at a n =
-          subst (λ (x : WorkStep). WorkStepped s surface declarations rows d (works_in work st.works) work st core x core₁ work₁) q h in
-          subst (λ (o : TermOutcome). Answered o (TermDone.Unknown a n) core₁) (sym (e.same ∙ u)) refl
-
-    pub ended : st.works ≡ 0 → Answered whole TermDone.Done core
-    unfolding works_in run
-    ended z = subst (λ (o : TermOutcome). Answered o TermDone.Done core) (sym (e.same ∙ ap (λ (t : ℕ). outcome s surface declarations rows d (works_in work t) work st core) z)) (refl, refl)
+  pub ended : (core work : List ℕ) (st : State) → Elaborating core work st → st.works ≡ 0 → Answered whole (Ok tt) core
+  unfolding works_in run
+  ended core work st e z =
+      subst (λ (o : TermOutcome). Answered o (Ok tt) core) (sym (e.same ∙ ap (λ (t : ℕ). outcome s surface declarations rows d (works_in work t) work st core) z)) (refl, refl)

@@ -1,13 +1,14 @@
 -- The resolution of a declaration by its record: what `declaration_step` comes to.
 -- Only contracts of private functions cite this; that it is the resolution of the declaration is proved.
-use Rattle.std.specs.Prelude.{ℕ, ◌+◌, ◌*◌, ◌≤◌, ◌≡◌, List, [], Bool, true, false, cond, eqb, length, get_or}
+use Rattle.token.specs.declared.Class.{Class}
+use Rattle.std.specs.Prelude.{Result, Ok, Err, ℕ, ◌+◌, ◌*◌, ◌≤◌, ◌≡◌, List, [], cond, eqb, length, get_or}
 use Rattle.std.proofs.Math.Option.{none, some}
 use Rattle.terms.specs.Label.{part}
 use Rattle.terms.specs.Resolution.{find, RefusedName, refused_name}
 use Rattle.scope.specs.Scope.{declared_names}
 use Rattle.stacks.specs.Stacks.{WorkArea}
 use Rattle.elaborate.specs.RowTerm.{TermOutcome, done, unknown_at, and_then, row_term}
-use Rattle.elaborate.specs.declared.Elaborated.{Elaborated}
+use Rattle.elaborate.specs.declared.RefusedName as declared
 
 -- The tables are long enough for so many rows and declarations, and a declaration's place fits a word.
 pub record Fitting (surface declarations work : List ℕ) (rows count : ℕ) : Type 0 where
@@ -15,10 +16,6 @@ pub record Fitting (surface declarations work : List ℕ) (rows count : ℕ) : T
   pub read : rows * 8 ≤ length surface
   pub listed : count * 5 ≤ length declarations
   pub few : count ≤ 4294967296
-
-abbrev pub Whether : Bool → Type 0 → Type 0
-Whether true P = P
-Whether false P = P → ⊥
 
 -- An index with nothing in it.
 abbrev pub Blank : List ℕ → Type 0
@@ -32,7 +29,7 @@ pub data ModuleOutcome : Type 0 where
 -- "5 unknown name"
 abbrev pub module_outcome : TermOutcome → ModuleOutcome
 module_outcome (done c) = resolved c
-module_outcome (unknown_at a n) = refused (refused_name 5 a n)
+module_outcome (unknown_at a n) = refused (refused_name Class.UnknownName a n)
 
 module _ (s surface declarations : List ℕ) (rows d : ℕ) where
   -- A type, and the body if the kind has one.
@@ -52,11 +49,15 @@ module _ (s surface declarations : List ℕ) (rows d : ℕ) where
   unfoldable pub declaration_outcome : List ℕ → ModuleOutcome
   declaration_outcome core =
       elim (find (part s (record_word 1) (record_word 2)) (declared_names s declarations 0 d)) [
-        | some i ↦ refused (refused_name 4 (record_word 1) (record_word 2))
+        | some i ↦ refused (refused_name Class.DuplicateName (record_word 1) (record_word 2))
         | none ↦ module_outcome (record_outcome core)
       ]
 
+-- A refused name, as it is answered.
+abbrev pub name_refused : RefusedName → declared.RefusedName
+name_refused x = record { class = x.class; start = x.start; length = x.length }
+
 -- The answer, and the core table.
-abbrev pub Declared : ModuleOutcome → Elaborated → List ℕ → Type 0
-Declared (resolved c) r core = (r ≡ Elaborated.Done) × (core ≡ c)
-Declared (refused x) r core = r ≡ Elaborated.Refused x.class x.start x.length
+abbrev pub Declared : ModuleOutcome → Result (Unit {0}) declared.RefusedName → List ℕ → Type 0
+Declared (resolved c) r core = (r ≡ Ok tt) × (core ≡ c)
+Declared (refused x) r core = r ≡ Err (name_refused x)

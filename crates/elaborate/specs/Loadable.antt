@@ -1,5 +1,5 @@
 -- What `elaborate_surface` is given, and what it leaves: the rows and records of the declarations read, and their core rows.
-use Rattle.std.specs.Prelude.{ℕ, zero, suc, ◌*◌, ◌≤◌, ◌≡◌, List, [], ◌∷◌, length, take, drop}
+use Rattle.std.specs.Prelude.{Result, Ok, Err, ℕ, zero, suc, ◌*◌, ◌≤◌, ◌≡◌, List, [], ◌∷◌, length, take, drop}
 use Rattle.std.proofs.Math.Option.{Option, none, some}
 use Rattle.terms.specs.Forms.{arity_of}
 use Rattle.terms.specs.Tree.{Forest, nil, node, Tree, count}
@@ -7,7 +7,8 @@ use Rattle.terms.specs.Label.{Label, Declaration, trees}
 use Rattle.terms.specs.Resolution.{RefusedName, first_refused, resolve_module}
 use Rattle.terms.specs.Rows.{joined, surface_rows, core_rows, read_records}
 use Rattle.stacks.specs.Stacks.{WorkArea}
-use Rattle.elaborate.specs.declared.Elaborated.{Elaborated}
+use Rattle.elaborate.specs.Declarations.{name_refused}
+use Rattle.elaborate.specs.declared.RefusedName as declared
 
 -- Each term has as many arguments as its kind wants.
 abbrev pub Shaped : Forest Label → Type 0
@@ -41,10 +42,10 @@ pub record Loadable (surface declarations core work : List ℕ) (rows count : �
   pub well_read : WellRead ds
 
 -- The answer, and the core table: the core rows, with what lies behind them untouched; or the first refused name.
-abbrev pub ElaboratesTo : Option RefusedName → List ℕ → List Declaration → ℕ → List ℕ → Elaborated → List ℕ → Type 0
+abbrev pub ElaboratesTo : Option RefusedName → List ℕ → List Declaration → ℕ → List ℕ → Result (Unit {0}) declared.RefusedName → List ℕ → Type 0
 ElaboratesTo none s ds rows core r core₁ =
-    (r ≡ Elaborated.Done) × (take (rows * 8) core₁ ≡ joined (core_rows 0 (resolve_module s [] ds))) × (drop (rows * 8) core₁ ≡ drop (rows * 8) core)
-ElaboratesTo (some x) s ds rows core r core₁ = r ≡ Elaborated.Refused x.class x.start x.length
+    (r ≡ Ok tt) × (take (rows * 8) core₁ ≡ joined (core_rows 0 (resolve_module s [] ds))) × (drop (rows * 8) core₁ ≡ drop (rows * 8) core)
+ElaboratesTo (some x) s ds rows core r core₁ = r ≡ Err (name_refused x)
 
-abbrev pub Elaborates : List ℕ → List Declaration → ℕ → List ℕ → Elaborated → List ℕ → Type 0
+abbrev pub Elaborates : List ℕ → List Declaration → ℕ → List ℕ → Result (Unit {0}) declared.RefusedName → List ℕ → Type 0
 Elaborates s ds rows core r core₁ = ElaboratesTo (first_refused s [] ds) s ds rows core r core₁

@@ -1,19 +1,19 @@
 -- The stack of work items of `elaborate_term`: what it comes to, the room that it takes, and how long it goes on.
 -- Only contracts of private functions cite this.
-use Rattle.std.specs.Prelude.{ℕ, zero, suc, ◌+◌, ◌-◌, ◌*◌, ◌≤◌, ◌<◌, ◌≡◌, List, [], ◌∷◌, ◌++◌, Bool, true, false, length, take, drop}
+use Rattle.std.specs.Prelude.{Result, Ok, Err, ℕ, zero, suc, ◌+◌, ◌-◌, ◌*◌, ◌≤◌, ◌<◌, ◌≡◌, List, [], ◌∷◌, ◌++◌, Bool, true, false, length, take, drop}
 use Rattle.terms.specs.Forms.{counts_as, arity_of, holds_span}
 use Rattle.terms.specs.Label.{Label}
-use Rattle.terms.specs.Resolution.{Locals, Core, covers, is_unknown}
+use Rattle.terms.specs.Resolution.{Locals, Core, var, global, covers, is_unknown}
 use Rattle.terms.specs.Rows.{row, core_words}
 use Rattle.rows.specs.Places.{stored_at}
 use Rattle.scope.specs.Scope.{local_names}
 use Rattle.scope.specs.Index.{Indexed}
+use Rattle.scope.specs.declared.Referent.{Referent}
 use Rattle.stacks.specs.Stacks.{works_in, values_in, WorkArea, WorkPushed, ValuePushed}
 use Rattle.stacks.specs.declared.Work.{Work}
 use Rattle.elaborate.specs.RowTerm.{row_word, bound_at, six_at, TermOutcome, done, unknown_at, and_then, row_term}
 use Rattle.elaborate.specs.declared.State.{State}
-use Rattle.elaborate.specs.declared.WorkStep.{WorkStep}
-use Rattle.elaborate.specs.declared.TermDone.{TermDone}
+use Rattle.elaborate.specs.declared.UnknownName.{UnknownName}
 
 -- The core row of the form at row `id`, of kind k in the core, with the rows of its arguments: there is no span in it.
 abbrev pub form_words : List ℕ → ℕ → ℕ → List ℕ → List ℕ
@@ -89,10 +89,15 @@ pub record RowDone (id : ℕ) (words : List ℕ) (st : State) (core work : List 
   pub value : ValuePushed work work₁ st.values id
   pub state : st₁ ≡ record { works = st.works; values = st.values + 1; locals = st.locals }
 
+-- What a reference becomes that was found.
+abbrev pub core_of_found : Referent → Core
+core_of_found (Referent.Local f) = var f.count
+core_of_found (Referent.Global place) = global place
+
 -- A reference to c: its row is stored, or it is unknown.
-abbrev pub ReferenceDone : Core → Label → ℕ → State → List ℕ → List ℕ → WorkStep → List ℕ → List ℕ → Type 0
-ReferenceDone c l id st core work (WorkStep.Go st₁) core₁ work₁ = (is_unknown c ≡ false) × RowDone id (core_words l c []) st core work st₁ core₁ work₁
-ReferenceDone c l id st core work (WorkStep.Unknown a n) core₁ work₁ = (is_unknown c ≡ true) × (a ≡ l.start) × (n ≡ l.length)
+abbrev pub ReferenceDone : Core → Label → ℕ → State → List ℕ → List ℕ → Result State UnknownName → List ℕ → List ℕ → Type 0
+ReferenceDone c l id st core work (Ok st₁) core₁ work₁ = (is_unknown c ≡ false) × RowDone id (core_words l c []) st core work st₁ core₁ work₁
+ReferenceDone c l id st core work (Err u) core₁ work₁ = (is_unknown c ≡ true) × (u.start ≡ l.start) × (u.length ≡ l.length)
 
 -- The state without the values of a form's arguments.
 abbrev pub without_arguments : ℕ → State → State
@@ -114,11 +119,11 @@ module _ (s surface declarations : List ℕ) (rows d : ℕ) where
     pub room : Room (works_in work₁ st₁.works) st₁.values st₁.locals
     pub fits : st₁.works ≤ 3754
 
-  abbrev pub WorkStepped : List Work → List ℕ → State → List ℕ → WorkStep → List ℕ → List ℕ → Type 0
-  WorkStepped works work st core (WorkStep.Go st₁) core₁ work₁ = Went works work st core st₁ core₁ work₁
-  WorkStepped works work st core (WorkStep.Unknown a n) core₁ work₁ = outcome works work st core ≡ unknown_at a n
+  abbrev pub WorkStepped : List Work → List ℕ → State → List ℕ → Result State UnknownName → List ℕ → List ℕ → Type 0
+  WorkStepped works work st core (Ok st₁) core₁ work₁ = Went works work st core st₁ core₁ work₁
+  WorkStepped works work st core (Err u) core₁ work₁ = outcome works work st core ≡ unknown_at u.start u.length
 
 -- The answer, and the core table.
-abbrev pub Answered : TermOutcome → TermDone → List ℕ → Type 0
-Answered (done c) r core = (r ≡ TermDone.Done) × (core ≡ c)
-Answered (unknown_at a n) r core = r ≡ TermDone.Unknown a n
+abbrev pub Answered : TermOutcome → Result (Unit {0}) UnknownName → List ℕ → Type 0
+Answered (done c) r core = (r ≡ Ok tt) × (core ≡ c)
+Answered (unknown_at a n) r core = r ≡ Err (record { start = a; length = n })

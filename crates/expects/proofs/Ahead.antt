@@ -1,4 +1,8 @@
 -- What is read stands behind the position where it was asked for and within the source, and keeps the count of rows.
+use Rattle.expects.specs.Answers.{NameRead}
+use Rattle.token.specs.declared.Class.{Class}
+use Rattle.token.specs.Token.{Lexed}
+use Rattle.std.specs.Prelude.{Ok, Err}
 use Prim.Native.Nat.{ℕ, ◌+◌, ◌-◌, ◌≤◌, ◌<◌}
 use mathlib.Core.Path.{◌≡◌, refl, sym, ◌∙◌, ap, subst}
 use mathlib.Core.Bool.{Bool, true, false, not, false≢true}
@@ -7,8 +11,6 @@ use native.Mathlib.Omega.{arith}
 use lib.ListN.{length}
 use Rattle.token.specs.declared.TokenKind.{TokenKind}
 use Rattle.token.specs.declared.Token.{Token}
-use Rattle.token.specs.declared.Lexed.{Lexed}
-use Rattle.token.specs.declared.Lexed.TheVariants.{Got, Refused}
 use Rattle.core_token.specs.CoreToken.{next_core_token}
 use Rattle.core_token.proofs.Bounds as core
 use Rattle.core_token.proofs.Ends.{string_here}
@@ -23,7 +25,6 @@ use Rattle.expects.specs.Expects.{position_at, Reads, name_read, Names}
 use Rattle.expects.specs.Tokens.{TokenInside, LexedInside}
 use Rattle.expects.specs.Lines.{tag}
 use Rattle.expects.specs.declared.Format.{Format}
-use Rattle.expects.specs.declared.NameRead.{NameRead}
 use Rattle.expects.specs.Formats.{edition, declared_name}
 use Rattle.expects.proofs.Formats.{bounded}
 use Rattle.expects.proofs.Gives.{Gives, given, gives_as, gives_after, gives_require}
@@ -63,8 +64,8 @@ has_bytes TokenKind.Eof n w = absurd (n refl)
 
 module _ (S : Source) (p : Position) where
   lexed_any : (x : Lexed) → Within p.offset (length S.bytes) x → Gives (AnyToken S.bytes p) (lexed p.rows x)
-  lexed_any (Got t) w = record { span = w; next = refl; rows = refl }
-  lexed_any (Refused r) w = tt
+  lexed_any (Ok t) w = record { span = w; next = refl; rows = refl }
+  lexed_any (Err r) w = tt
 
   pub token_any : Gives (AnyToken S.bytes p) (token S.next p)
   unfolding token
@@ -75,10 +76,10 @@ module _ (S : Source) (p : Position) where
   not_end t q a n = let h = has_bytes t.kind n a.span in record { low = h.low; some = h.some; high = h.high; next = a.next; rows = a.rows }
 
   -- A token for whose kind a test holds that does not hold for the end.
-  tested : (f : TokenKind → Bool) → f TokenKind.Eof ≡ false → Gives (TokenAhead S.bytes p) ((token S.next >>= (λ t. require (f t.kind) (at_token 1 t) >> pure t)) p)
+  tested : (f : TokenKind → Bool) → f TokenKind.Eof ≡ false → Gives (TokenAhead S.bytes p) ((token S.next >>= (λ t. require (f t.kind) (at_token Class.Malformed t) >> pure t)) p)
   tested f n =
       gives_after (AnyToken S.bytes p) (TokenAhead S.bytes p) (token S.next p) _ token_any
-      (λ t q a. gives_require (TokenAhead S.bytes p) (f t.kind) (at_token 1 t) (pure t) q (λ y. not_end t q a (λ i. false≢true (sym n ∙ ap f (sym i) ∙ y))))
+      (λ t q a. gives_require (TokenAhead S.bytes p) (f t.kind) (at_token Class.Malformed t) (pure t) q (λ y. not_end t q a (λ i. false≢true (sym n ∙ ap f (sym i) ∙ y))))
 
   pub opening_ahead : Gives (TokenAhead S.bytes p) (opening S.next p)
   unfolding opening
@@ -93,9 +94,9 @@ module _ (S : Source) (p : Position) where
   atom_ahead = tested is_atom refl
 
   -- An atom that passes a test.
-  atom_tested : (f : Token → Bool) → Gives (TokenAhead S.bytes p) ((atom S.next >>= (λ t. require (f t) (at_token 1 t) >> pure t)) p)
+  atom_tested : (f : Token → Bool) → Gives (TokenAhead S.bytes p) ((atom S.next >>= (λ t. require (f t) (at_token Class.Malformed t) >> pure t)) p)
   atom_tested f =
-      gives_after (TokenAhead S.bytes p) (TokenAhead S.bytes p) (atom S.next p) _ atom_ahead (λ t q a. gives_require (TokenAhead S.bytes p) (f t) (at_token 1 t) (pure t) q (λ y. a))
+      gives_after (TokenAhead S.bytes p) (TokenAhead S.bytes p) (atom S.next p) _ atom_ahead (λ t q a. gives_require (TokenAhead S.bytes p) (f t) (at_token Class.Malformed t) (pure t) q (λ y. a))
 
   pub word_ahead : (w : List ℕ) → Gives (TokenAhead S.bytes p) (word S.next S.bytes w p)
   unfolding word
@@ -118,8 +119,8 @@ module _ (E : Edition) (b : (s : List ℕ) (at : ℕ) → Within at (length s) (
   unfolding name
   name_ahead =
       gives_after (TokenAhead s p) (TokenAhead s p) (atom (E.tokens s) p) _ (atom_ahead (source_of E b s) p)
-      (λ t q a. gives_require (TokenAhead s p) (not (E.reserved (text s t))) (at_token 3 t) (require (identifier (text s t)) (at_token 1 t) >> pure t) q
-      (λ y. gives_require (TokenAhead s p) (identifier (text s t)) (at_token 1 t) (pure t) q (λ z. a)))
+      (λ t q a. gives_require (TokenAhead s p) (not (E.reserved (text s t))) (at_token Class.ReservedName t) (require (identifier (text s t)) (at_token Class.Malformed t) >> pure t) q
+      (λ y. gives_require (TokenAhead s p) (identifier (text s t)) (at_token Class.Malformed t) (pure t) q (λ z. a)))
 
 -- The same, of a token that was read.
 module _ (S : Source) (p : Position) (t : Token) (q : Position) where
@@ -142,7 +143,7 @@ pub inside : (s : List ℕ) (p : Position) (t : Token) (q : Position) → TokenA
 inside s p t q a = record { order = omega arith; high = a.high }
 
 -- The token that stands next, unless it is the end token.
-module _ (S : Source) (at : ℕ) (t : Token) (e : S.next at ≡ Got t) (not-eof : t.kind ≡ TokenKind.Eof → ⊥) where
+module _ (S : Source) (at : ℕ) (t : Token) (e : S.next at ≡ Ok t) (not-eof : t.kind ≡ TokenKind.Eof → ⊥) where
   pub next_ahead : (n : ℕ) → TokenAhead S.bytes (position_at at n) t (position_at t.end n)
   unfolding token
   next_ahead n = token_got S (position_at at n) t (position_at t.end n) (ap (lexed n) e) not-eof
@@ -152,17 +153,17 @@ module _ (S : Source) (at : ℕ) (t : Token) (e : S.next at ≡ Got t) (not-eof 
 
 -- What a function gives for a reader R that gives tokens ahead.
 module _ (s : List ℕ) (R : Reader Token) (g : (p : Position) → Gives (TokenAhead s p) (R p)) (at : ℕ) (x : Lexed) (h : Reads R at x) where
-  pub read_ahead : (t : Token) → x ≡ Got t → (n : ℕ) → TokenAhead s (position_at at n) t (position_at t.end n)
+  pub read_ahead : (t : Token) → x ≡ Ok t → (n : ℕ) → TokenAhead s (position_at at n) t (position_at t.end n)
   read_ahead t e n = let p = position_at at n in given (TokenAhead s p) (g p) (h n ∙ ap (lexed n) e)
 
   pub read_inside : LexedInside (length s) x
   read_inside = by x refl
     where
       by : (y : Lexed) → x ≡ y → LexedInside (length s) y
-      by (Got t) e = inside s (position_at at 0) t _ (read_ahead t e 0)
-      by (Refused r) e = tt
+      by (Ok t) e = inside s (position_at at 0) t _ (read_ahead t e 0)
+      by (Err r) e = tt
 
-pub inside_got : (hi : ℕ) (x : Lexed) (t : Token) → LexedInside hi x → x ≡ Got t → TokenInside hi t
+pub inside_got : (hi : ℕ) (x : Lexed) (t : Token) → LexedInside hi x → x ≡ Ok t → TokenInside hi t
 inside_got hi x t i e = subst (LexedInside hi) e i
 
 -- The parenthesis and the word that a line begins with.
@@ -175,7 +176,7 @@ tag_ahead S w p =
     (λ t r b. (b.high, omega arith)))
 
 module _ (f : Format) (s : List ℕ) (at : ℕ) (x : Lexed) where
-  pub atom_inside : Reads (atom ((edition f).tokens s)) at x → (t : Token) → x ≡ Got t → TokenInside (length s) t
+  pub atom_inside : Reads (atom ((edition f).tokens s)) at x → (t : Token) → x ≡ Ok t → TokenInside (length s) t
   atom_inside h t e = inside_got (length s) x t (read_inside s (atom ((edition f).tokens s)) (atom_ahead (source f s)) at x h) e
 
   pub natural_inside : Reads (natural ((edition f).tokens s) s) at x → LexedInside (length s) x
@@ -201,10 +202,10 @@ module _ (s : List ℕ) (p : Position) where
   string_is TokenKind.Eof e = absurd (false≢true e)
 
   string_by : (x : Lexed) → next_core_token s p.offset ≡ x
-      → Gives (NameAhead s p) (after (lexed p.rows x) (λ t. require (is_string t.kind) (at_token 1 t) >> pure (record { kind = TokenKind.String; start = t.start + 1; end = t.end - 1 })))
-  string_by (Refused r) e = tt
-  string_by (Got t) e =
-      gives_require (NameAhead s p) (is_string t.kind) (at_token 1 t) (pure (record { kind = TokenKind.String; start = t.start + 1; end = t.end - 1 })) (position_at t.end p.rows)
+      → Gives (NameAhead s p) (after (lexed p.rows x) (λ t. require (is_string t.kind) (at_token Class.Malformed t) >> pure (record { kind = TokenKind.String; start = t.start + 1; end = t.end - 1 })))
+  string_by (Err r) e = tt
+  string_by (Ok t) e =
+      gives_require (NameAhead s p) (is_string t.kind) (at_token Class.Malformed t) (pure (record { kind = TokenKind.String; start = t.start + 1; end = t.end - 1 })) (position_at t.end p.rows)
       (λ b.
       let k = string_is t.kind b in
       let q = string_here s p.offset t e k in
@@ -223,6 +224,6 @@ declared_ahead Format.Surface01 s p = identifier_ahead Format.Surface01 s p
 declared_ahead Format.Surface02 s p = identifier_ahead Format.Surface02 s p
 
 -- The same, of what `parse_name` gives.
-pub names_got : (f : Format) (s : List ℕ) (at : ℕ) (r : NameRead) → Names f s at r → (t : Token) (next : ℕ) → r ≡ NameRead.Got t next → (n : ℕ)
+pub names_got : (f : Format) (s : List ℕ) (at : ℕ) (r : NameRead) → Names f s at r → (t : Token) (next : ℕ) → r ≡ Ok (t, next) → (n : ℕ)
     → NameAhead s (position_at at n) t (position_at next n)
 names_got f s at r h t next e n = let p = position_at at n in given (NameAhead s p) (declared_ahead f s p) (h n ∙ ap (name_read n) e)

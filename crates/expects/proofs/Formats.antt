@@ -1,13 +1,14 @@
 -- What each format's tokens and tests are in the code.
+use Rattle.std.specs.Prelude.{Option}
+use Rattle.expects.specs.Answers.{NameRead}
 use Prim.Native.Nat.{ℕ, ◌+◌, ◌<◌}
 use mathlib.Core.Path.{◌≡◌, refl, sym, ◌∙◌, ap, subst}
 use mathlib.Core.Bool.{Bool, true, false}
 use mathlib.Core.List.{List}
 use lib.Dec.{eqb}
 use lib.ListN.{length, get_or}
-use Rattle.token.specs.Token.{next_token, token}
+use Rattle.token.specs.Token.{next_token, token, Lexed}
 use Rattle.token.specs.declared.TokenKind.{TokenKind}
-use Rattle.token.specs.declared.Lexed.{Lexed}
 use Rattle.token.proofs.Bounds.{bounds, Within}
 use Rattle.core_token.proofs.Bounds as core
 use Rattle.core_token.proofs.Parentheses.{open_next, close_next, space_next}
@@ -18,8 +19,9 @@ use Rattle.surface.specs.Reading.{name}
 use Rattle.core_text.specs.TextReading.{text_edition}
 use Rattle.expects.specs.declared.Format.{Format}
 use Rattle.expects.specs.declared.FormOfWord.{FormOfWord}
-use Rattle.expects.specs.declared.NameRead.{NameRead}
-use Rattle.expects.specs.FormOfWord.{form_numbers}
+use Rattle.expects.specs.FormOfWord.{told_form}
+use mathlib.Core.Logic.{inl, inr}
+use Rattle.expects.specs.Tokens.{IsParen}
 use Rattle.expects.specs.Formats.{edition, OfSource, ends}
 use Rattle.expects.specs.Expects.{ReadsName, Names}
 use Rattle.expects.specs.Tokens.{kind_number}
@@ -63,8 +65,8 @@ module _ (f : Format) (q : ¬ (f ≡ Format.Core01)) where
 
 -- The forms of each format by those of surface 0 1.
 module _ (f g : Format) (q : f ≡ g) where
-  pub forms_by : (w : List ℕ) (r : FormOfWord) → r ≡ form_numbers (form_of_word w (edition g).forms) → r ≡ form_numbers (form_of_word w (edition f).forms)
-  forms_by w r e = subst (λ (x : Format). r ≡ form_numbers (form_of_word w (edition x).forms)) (sym q) e
+  pub forms_by : (w : List ℕ) (r : Option FormOfWord) → r ≡ told_form (form_of_word w (edition g).forms) → r ≡ told_form (form_of_word w (edition f).forms)
+  forms_by w r e = subst (λ (x : Format). r ≡ told_form (form_of_word w (edition x).forms)) (sym q) e
 
   pub reserved_by : (w : List ℕ) (r : Bool) → r ≡ (edition g).reserved w → r ≡ (edition f).reserved w
   reserved_by w r e = subst (λ (x : Format). r ≡ (edition x).reserved w) (sym q) e
@@ -99,6 +101,11 @@ module _ (s : List ℕ) (at : ℕ) (h : at < length s) where
   space_first Format.Surface02 e = space_here s at h e
   space_first Format.Core01 e = sym (space_next s at h e)
 
+-- The same of either parenthesis, by its byte.
+pub paren_first : (s : List ℕ) (at b : ℕ) (k : TokenKind) (f : Format) → IsParen b k → get_or s at 0 ≡ b → at < length s → (edition f).tokens s at ≡ token k at (at + 1)
+paren_first s at b k f (inl q) e h = rw q.1 (sym (open_first s at h f (e ∙ q.0)))
+paren_first s at b k f (inr q) e h = rw q.1 (sym (close_first s at h f (e ∙ q.0)))
+
 pub core_ends : (f : Format) (k : TokenKind) (n : ℕ) → n ≡ kind_number k → f ≡ Format.Core01 → eqb n 1 ≡ ends f k
 core_ends f k n e q = ap (λ (i : ℕ). eqb i 1) e ∙ core_end k ∙ ap (λ (g : Format). ends g k) (sym q)
 
@@ -116,8 +123,8 @@ pub names_by : (f g : Format) (s : List ℕ) (at : ℕ) (r : NameRead) → f ≡
 names_by f g s at r q h = subst (λ (x : Format). Names x s at r) (sym q) h
 
 -- A word that stands alone is the same form in every format.
-pub alone_in : (f : Format) (w : List ℕ) → Alone (form_numbers (form_of_word w forms)) (form_numbers (form_of_word w (edition f).forms))
+pub alone_in : (f : Format) (w : List ℕ) → Alone (told_form (form_of_word w forms)) (told_form (form_of_word w (edition f).forms))
 unfolding edition_0_1 edition_0_2 text_edition
-alone_in Format.Surface01 w = record { there = λ e. refl; back = λ e. e }
+alone_in Format.Surface01 w = record { there = λ f e q. refl; back = λ f e q. refl }
 alone_in Format.Surface02 w = alone_arrow w
 alone_in Format.Core01 w = alone_text w

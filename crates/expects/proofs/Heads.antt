@@ -1,23 +1,26 @@
 -- The head stands ahead, and its name within the source.
+use Rattle.std.specs.Prelude.{Ok}
+use Rattle.expects.specs.Answers.{HeadRead}
 use Prim.Native.Nat.{ℕ}
 use mathlib.Core.Path.{◌≡◌, refl, sym, ◌∙◌, ap, subst}
 use mathlib.Core.List.{List}
 use mathlib.Core.Option.{Option, none, some}
 use native.Mathlib.Omega.{arith}
 use lib.ListN.{length}
-use Rattle.token.specs.Token.{next_token}
+use Rattle.token.specs.Token.{next_token, Lexed}
 use Rattle.token.specs.declared.Token.{Token}
-use Rattle.token.specs.declared.Lexed.{Lexed}
 use Rattle.token.proofs.Bounds.{bounds, Within}
 use Rattle.words.specs.Words.{ascii}
 use Rattle.terms.specs.Forms.{Edition}
 use Rattle.surface.specs.Reader.{Position}
 use Rattle.surface.specs.Reading.{opening, closing, word, natural, name, edition_of, supported, surface_line, module_line, head}
 use Rattle.surface.specs.Text.{text}
-use Rattle.expects.specs.declared.HeadRead.{HeadRead}
 use Rattle.expects.specs.declared.Format.{Format}
 use Rattle.expects.specs.Expects.{position_at, head_read, Heads}
 use Rattle.expects.specs.Tokens.{TokenInside}
+use Rattle.expects.specs.Formats.{OfSource}
+use Rattle.expects.specs.Lines.{edition_read, SurfaceLine}
+use Rattle.expects.specs.Answers.{EditionRead}
 use Rattle.surface.proofs.Editions.{edition_meets}
 use Rattle.expects.proofs.Gives.{Gives, given, gives_after}
 use Rattle.expects.proofs.Ahead.{Source, Ahead, TokenAhead, opening_ahead, closing_ahead, word_ahead, natural_ahead, name_ahead}
@@ -68,7 +71,11 @@ head_ahead s p =
     (λ E q a. gives_after (HeadAhead s q) (λ h. HeadAhead s p h.name) (module_line s E q) _ (module_ahead s q E a.0)
     (λ x r b. let c = a.1 in record { ahead = omega arith; name = b.name }))
 
+-- The format that the surface line tells is one of sources.
+pub known_source : (s : List ℕ) (x : EditionRead) → SurfaceLine s x → (f : Format) (next : ℕ) → x ≡ Ok (f, next) → OfSource f
+known_source s x h f next e = (given (Read s (position_at 0 0)) (surface_ahead s (position_at 0 0)) (h 0 ∙ ap (edition_read 0) e)).0
+
 -- The same, of what `read_head` gives.
-pub head_got : (s : List ℕ) (r : HeadRead) → Heads s r → (f : Format) (t : Token) (next : ℕ) → r ≡ HeadRead.Name f t next → (n : ℕ)
+pub head_got : (s : List ℕ) (r : HeadRead) → Heads s r → (f : Format) (t : Token) (next : ℕ) → r ≡ Ok (record { format = f; name = t; next = next }) → (n : ℕ)
     → HeadAhead s (position_at 0 n) t (position_at next n)
 head_got s r h f t next e n = let p = position_at 0 n in given (λ i. HeadAhead s p i.name) (head_ahead s p) (h n ∙ ap (head_read n) e)

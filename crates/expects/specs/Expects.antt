@@ -1,13 +1,12 @@
 -- What must stand next: the answers of the code beside the readers of `surface`.
-use Rattle.std.specs.Prelude.{◌≡◌, List, ℕ, ◌≤◌, length}
-use Rattle.token.specs.declared.Lexed.{Lexed}
+use Rattle.expects.specs.declared.TermStart.{TermStart}
+use Rattle.expects.specs.Answers.{Begun, NameRead, HeadRead}
+use Rattle.token.specs.Token.{Lexed}
+use Rattle.std.specs.Prelude.{◌≡◌, List, ℕ, ◌≤◌, length, Ok, Err}
 use Rattle.token.specs.declared.Token.{Token}
 use Rattle.terms.specs.Forms.{Edition, arity_of}
 use Rattle.surface.specs.Reader.{Position, Result, done, refused, Reader}
 use Rattle.surface.specs.Reading.{Beginning, leaf, frame, lexed, beginning, Head, head}
-use Rattle.expects.specs.declared.Begun.{Begun}
-use Rattle.expects.specs.declared.HeadRead.{HeadRead}
-use Rattle.expects.specs.declared.NameRead.{NameRead}
 use Rattle.expects.specs.declared.Format.{Format}
 use Rattle.expects.specs.Formats.{edition, declared_name}
 
@@ -20,9 +19,9 @@ Reads reader at r = (n : ℕ) → reader (position_at at n) ≡ lexed n r
 
 -- What a term begins with, behind which reading goes on; or the refusal. A frame has as many arguments as its kind.
 abbrev pub begun : ℕ → Begun → Result Beginning
-begun n (Begun.Leaf l next) = done (leaf l) (position_at next n)
-begun n (Begun.Frame l next) = done (frame l (arity_of l.kind)) (position_at next n)
-begun n (Begun.Refused r) = refused r
+begun n (Ok (TermStart.Leaf l next)) = done (leaf l) (position_at next n)
+begun n (Ok (TermStart.Frame l next)) = done (frame l (arity_of l.kind)) (position_at next n)
+begun n (Err r) = refused r
 
 -- r is what a term begins with at an offset of a source that is not too long for 32-bit words.
 abbrev pub Begins : Edition → List ℕ → ℕ → Begun → Type 0
@@ -30,8 +29,8 @@ Begins E s at r = length s ≤ 4294967295 → (n : ℕ) → beginning E s (posit
 
 -- A declaration's name, and where reading goes on behind it; or the refusal.
 abbrev pub name_read : ℕ → NameRead → Result Token
-name_read n (NameRead.Got x next) = done x (position_at next n)
-name_read n (NameRead.Refused r) = refused r
+name_read n (Ok x) = done x.0 (position_at x.1 n)
+name_read n (Err r) = refused r
 
 -- r is what a reader of a name gives at an offset, and where reading goes on.
 abbrev pub ReadsName : Reader Token → ℕ → NameRead → Type 0
@@ -43,8 +42,8 @@ Names f s at r = ReadsName (declared_name f s) at r
 
 -- The format's edition, the module's name, and where reading goes on behind the head; or the refusal.
 abbrev pub head_read : ℕ → HeadRead → Result Head
-head_read n (HeadRead.Name f t next) = done (record { edition = edition f; name = t }) (position_at next n)
-head_read n (HeadRead.Refused r) = refused r
+head_read n (Ok h) = done (record { edition = edition h.format; name = h.name }) (position_at h.next n)
+head_read n (Err r) = refused r
 
 -- r is the head at the beginning of a source.
 abbrev pub Heads : List ℕ → HeadRead → Type 0

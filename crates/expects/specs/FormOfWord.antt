@@ -1,27 +1,33 @@
--- The form of a word as two numbers: how the answer of the code is read.
-use Rattle.std.specs.Prelude.{cond, [], ◌∷◌, ℕ, eqb, get_or}
-use Rattle.std.proofs.Math.Option.{Option, none, some}
+-- The form of a word: how the answer of the code is read.
+use Rattle.std.specs.Prelude.{[], ◌∷◌, ℕ, get_or, Option, Some, None, option_map}
+use Rattle.std.proofs.Math.Option as math
 use Rattle.words.specs.Words.{reserved_words}
 use Rattle.terms.specs.Forms.{Shape, alone, with_name, with_numeral, binding, plain, Form, forms, form_of_word}
+use Rattle.expects.specs.declared.Shape as code
 use Rattle.expects.specs.declared.FormOfWord.{FormOfWord}
 
--- 0 is left for a word that has no form.
-abbrev pub shape_number : Shape → ℕ
-shape_number alone = 1
-shape_number with_name = 2
-shape_number with_numeral = 3
-shape_number binding = 4
-shape_number plain = 5
+abbrev pub told_shape : Shape → code.Shape
+told_shape alone = code.Shape.Alone
+told_shape with_name = code.Shape.WithName
+told_shape with_numeral = code.Shape.WithNumeral
+told_shape binding = code.Shape.Binding
+told_shape plain = code.Shape.Plain
 
-abbrev pub form_numbers : Option Form → FormOfWord
-form_numbers none = record { kind = 0; shape = 0 }
-form_numbers (some f) = record { kind = f.kind; shape = shape_number f.shape }
+abbrev pub told_form : math.Option Form → Option FormOfWord
+told_form math.none = None
+told_form (math.some f) = Some (record { kind = f.kind; shape = told_shape f.shape })
 
 -- The form of a reserved word by its index, from 1; word 0 is none.
-unfoldable pub form_at : ℕ → FormOfWord
-form_at k = form_numbers (form_of_word (get_or ([] ∷ reserved_words) k []) forms)
+unfoldable pub form_at : ℕ → Option FormOfWord
+form_at k = told_form (form_of_word (get_or ([] ∷ reserved_words) k []) forms)
 
--- The same form where no name is written: none where it is nothing but a name.
-abbrev pub unnamed_numbers : FormOfWord → FormOfWord
-unnamed_numbers f =
-    cond (eqb f.shape 2) (record { kind = 0; shape = 0 }) (cond (eqb f.shape 4) (record { kind = f.kind; shape = 5 }) f)
+-- How a form is written where no name is: not at all where it is nothing but a name.
+abbrev pub unnamed_shape : code.Shape → Option code.Shape
+unnamed_shape code.Shape.Alone = Some code.Shape.Alone
+unnamed_shape code.Shape.WithName = None
+unnamed_shape code.Shape.WithNumeral = Some code.Shape.WithNumeral
+unnamed_shape code.Shape.Binding = Some code.Shape.Plain
+unnamed_shape code.Shape.Plain = Some code.Shape.Plain
+
+abbrev pub unnamed : FormOfWord → Option FormOfWord
+unnamed f = option_map (λ s. record { kind = f.kind; shape = s }) (unnamed_shape f.shape)

@@ -1,4 +1,5 @@
 pub mod Formats
+pub mod Answers
 pub mod Expects
 pub mod FormOfWord
 pub mod Tokens

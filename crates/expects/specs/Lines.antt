@@ -1,23 +1,21 @@
 -- The parts of the head that have functions of their own.
-use Rattle.std.specs.Prelude.{◌≡◌, Bool, ◌&&◌, List, ℕ}
-use Rattle.token.specs.Token.{next_token}
+use Rattle.expects.specs.Answers.{EditionRead, HeadRead}
+use Rattle.std.specs.Prelude.{◌≡◌, Bool, ◌&&◌, List, ℕ, Ok, Err}
+use Rattle.token.specs.Token.{next_token, Lexed}
 use Rattle.token.specs.declared.Token.{Token}
-use Rattle.token.specs.declared.Lexed.{Lexed}
 use Rattle.words.specs.Words.{ascii, same_bytes}
 use Rattle.terms.specs.Forms.{Edition}
 use Rattle.surface.specs.Reader.{Result, done, refused, Reader, after, ◌>>=◌, pure}
 use Rattle.surface.specs.Text.{text}
 use Rattle.surface.specs.Reading.{Head, opening, closing, word, supported, edition_of, surface_line, module_line}
-use Rattle.expects.specs.declared.EditionRead.{EditionRead}
-use Rattle.expects.specs.declared.HeadRead.{HeadRead}
 use Rattle.expects.specs.declared.Format.{Format}
 use Rattle.expects.specs.Formats.{edition}
 use Rattle.expects.specs.Expects.{position_at, head_read}
 
 -- The edition, behind its line; or the refusal.
 abbrev pub edition_read : ℕ → EditionRead → Result Edition
-edition_read n (EditionRead.Known f next) = done (edition f) (position_at next n)
-edition_read n (EditionRead.Refused r) = refused r
+edition_read n (Ok x) = done (edition x.0) (position_at x.1 n)
+edition_read n (Err r) = refused r
 
 -- The head of a format, with the module's name.
 abbrev pub named : Format → Result Token → Result Head

@@ -1,14 +1,14 @@
 -- The parts of a term's beginning that have functions of their own.
+use Rattle.expects.specs.Answers.{Begun}
+use Rattle.token.specs.Token.{Lexed}
 use Rattle.std.specs.Prelude.{◌≡◌, List, ℕ, ◌-◌, ◌≤◌, ◌<◌, length}
 use Rattle.token.specs.declared.TokenKind.{TokenKind}
 use Rattle.token.specs.declared.Token.{Token}
-use Rattle.token.specs.declared.Lexed.{Lexed}
 use Rattle.terms.specs.Forms.{Edition, form_of_word}
 use Rattle.terms.specs.Label.{Label}
 use Rattle.surface.specs.Reader.{after, ◌>>=◌, pure}
 use Rattle.surface.specs.Text.{text}
 use Rattle.surface.specs.Reading.{leaf, lexed, closing, known, tagged, beginning_on}
-use Rattle.expects.specs.declared.Begun.{Begun}
 use Rattle.expects.specs.Expects.{position_at, begun}
 use Rattle.expects.specs.Tokens.{TokenInside}
 

@@ -18,27 +18,23 @@ pub struct TermFrame {
 }
 
 // Opens the frame number depth.
+#[tactic(auto, unfolding(crate::specs::Frames::opened))]
 pub fn open_frame(work: &mut [u32], depth: usize, label: Label)
     requires { HasFrame work.old depth }
     ensures { work.new ≡ opened work.old depth label }
 {
-    let words = [
-        label.kind,
-        label.start,
-        label.length,
-        label.offset,
-        0,
-        0,
-        0,
-        0,
-        0,
-        0,
-        0,
-    ];
+    let Label {
+        kind,
+        start,
+        length,
+        offset,
+    } = label;
+    let words = [kind, start, length, offset, 0, 0, 0, 0, 0, 0, 0];
     tables::put(work, depth * FRAME, &words);
 }
 
 // The row of one more argument of the frame number depth, in place.
+#[tactic(auto, unfolding(crate::specs::Frames::pushed))]
 pub fn push_arg(work: &mut [u32], depth: usize, id: u32)
     requires has_frame { HasFrame work.old depth }
     requires depth_bound { frame_count work.old (depth * 11) < 6 }
@@ -61,6 +57,7 @@ fn frame_word(work: &[u32], depth: usize, i: usize) -> u32
     work[at + i]
 }
 
+#[tactic(auto, unfolding(crate::specs::Frames::frame_at))]
 pub fn frame_kind(work: &[u32], depth: usize) -> u32
     requires { HasFrame work.now depth }
     ensures { result ≡ (frame_at work.now depth).label.kind }

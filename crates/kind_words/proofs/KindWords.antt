@@ -1,13 +1,14 @@
 -- The table of the kinds agrees with the definitions, by one computed test.
 use Prim.Native.Nat.{ℕ, zero, suc, ◌+◌, ◌≤◌, ◌<◌}
-use mathlib.Core.Path.{◌≡◌, refl}
+use mathlib.Core.Path.{◌≡◌, refl, ◌∙◌}
 use mathlib.Core.Bool.{Bool, true, false, ◌&&◌}
 use mathlib.Core.List.{List, [], ◌∷◌}
 use mathlib.Core.Option.{none}
+use native.Mathlib.Decide.{dec_lt}
 use native.Mathlib.Omega.{arith}
 use native.Mathlib.Nat.{add-zero, zero-add, add-suc, suc-add, le_of_suc-le-suc, not-suc-le-zero}
 use lib.Dec.{leb, eqb}
-use lib.ListN.{get_or, length}
+use lib.ListN.{get_or, length, get_or-eq_default}
 use borrow.Author.Tests.{ne_eqb, eqb-true, leb-true}
 use Rattle.words.specs.Words.{same_bytes}
 use Rattle.words.proofs.Names.{same_eq}
@@ -81,3 +82,11 @@ none_right k h =
     let a = ne_eqb k 1 (λ e. omega arith) in
     let b = ne_eqb k 2 (λ e. omega arith) in
     (rw (a, b, n, word_of_kind), rw (a, b, m, field_count, arity_of))
+
+-- Any kind's entry, where a kind behind the table has that of no kind.
+pub kind_any : (k : ℕ) (e : Kind) → e ≡ get_or kinds k (0, 0, 0) → Right k e
+unfolding kinds
+kind_any k e q = elim (dec_lt k 26) [
+  | yes h ↦ rw q (kind_right k h (0, 0, 0))
+  | no h ↦ rw (q ∙ get_or-eq_default kinds (0, 0, 0) {n = k} (omega arith)) (none_right k (omega arith))
+]

@@ -10,7 +10,7 @@ pub const WORDS: [u8; 104] =
     *b"varglobaluniversepilamappsigmapairfstsndidrefljemptyempty-elimunitstarunit-elimnatzerosuccnat-elimannref";
 
 // Start and length of a kind's word in WORDS, and how many numbers stand behind the word in a row's line of the listing.
-#[derive(Clone, Copy)]
+#[derive(Clone, Copy, Debug, PartialEq, Eq)]
 pub struct Kind(pub u8, pub u8, pub u8);
 
 const KINDS: [Kind; 26] = [
@@ -46,9 +46,5 @@ pub fn kind_at(kind: u32) -> Kind
     ensures result_value { part words result.0 result.1 ≡ word_of_kind kind }
     ensures result_value_2 { result.2 ≡ field_count kind }
 {
-    let i = kind as usize;
-    if i < 26 {
-        return KINDS[i];
-    }
-    Kind(0, 0, 0)
+    KINDS.get(kind as usize).copied().unwrap_or(Kind(0, 0, 0))
 }

@@ -8,8 +8,7 @@ use mathlib.Core.Option.{Option, none, some}
 use Prim.Native.Nat.{ℕ, ◌+◌, ◌*◌, ◌/◌, ◌≤◌, ◌<◌}
 use native.Mathlib.Omega.{arith}
 use lib.ListN.{length}
-use Rattle.token.specs.Token.{next_token}
-use Rattle.token.specs.declared.Lexed.{Lexed}
+use Rattle.token.specs.Token.{next_token, Lexed}
 use Rattle.words.specs.Words.{ascii}
 use Rattle.terms.specs.Forms.{Edition}
 use Rattle.terms.specs.Label.{Declaration}

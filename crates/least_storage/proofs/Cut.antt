@@ -1,4 +1,7 @@
 -- Reading with room for fewer rows goes the same way until a row has no room.
+use Rattle.token.specs.declared.Class.{Class}
+use Rattle.token.specs.Token.{Lexed}
+use Rattle.std.specs.Prelude.{Ok, Err}
 use mathlib.Core.Path.{◌≡◌, refl}
 use mathlib.Core.List.{List}
 use mathlib.Core.Option.{Option, none, some}
@@ -10,8 +13,6 @@ use borrow.Author.Tests.{ltb-true, ltb-false}
 use Rattle.token.specs.declared.TokenKind.{TokenKind}
 use Rattle.token.specs.declared.Token.{Token}
 use Rattle.token.specs.declared.Refusal.{Refusal}
-use Rattle.token.specs.declared.Lexed.{Lexed}
-use Rattle.token.specs.declared.Lexed.TheVariants.{Got, Refused}
 use Rattle.words.specs.Words.{identifier, numeral}
 use Rattle.terms.specs.Forms.{Shape, alone, with_name, with_numeral, binding, plain, Form, Edition, form_of_word}
 use Rattle.terms.specs.Tree.{Forest, nil, Tree, tree}
@@ -34,7 +35,7 @@ Beyond r (refused c) = Unit {0}
 pub data Cut {A : Type 0} (r : ℕ) : Result A → Result A → Type 0 where
   goes_on : {a : A} {q : Position} → q.rows ≤ r → Cut r (done a q) (done a q)
   stops : {c : Refusal} → Cut r (refused c) (refused c)
-  full : {y : Result A} → Beyond r y → Cut r (refused (nowhere 8)) y
+  full : {y : Result A} → Beyond r y → Cut r (refused (nowhere Class.SurfaceFull)) y
 
 higher : {A : Type 0} (p q : Position) (z : Result A) → p.rows ≤ q.rows → Rises q z → Rises p z
 higher p q (done b v) h k = omega arith
@@ -80,12 +81,12 @@ module _ (r : ℕ) where
 
   module _ (next : ℕ → Lexed) where
     lexed_cut : (x : Lexed) (p : Position) → p.rows ≤ r → Cut r (lexed p.rows x) (lexed p.rows x)
-    lexed_cut (Got t) p h = goes_on h
-    lexed_cut (Refused c) p h = stops
+    lexed_cut (Ok t) p h = goes_on h
+    lexed_cut (Err c) p h = stops
 
     lexed_rises : (x : Lexed) (p : Position) → Rises p (lexed p.rows x)
-    lexed_rises (Got t) p = omega arith
-    lexed_rises (Refused c) p = tt
+    lexed_rises (Ok t) p = omega arith
+    lexed_rises (Err c) p = tt
 
     token_under : Under r (token next) (token next)
     unfolding token
@@ -151,7 +152,7 @@ module _ (r : ℕ) where
     store_under t = record { cut = λ p h. by p (ltb p.rows r) (ltb p.rows m) refl refl h; rises = λ p. up p (ltb p.rows m) }
       where
         stored : Bool → Position → Result (Tree Label)
-        stored b p = after (require b (nowhere 8) p) (λ _ q. done t (record { offset = p.offset; rows = suc p.rows }))
+        stored b p = after (require b (nowhere Class.SurfaceFull) p) (λ _ q. done t (record { offset = p.offset; rows = suc p.rows }))
 
         by : (p : Position) (a b : Bool) → ltb p.rows r ≡ a → ltb p.rows m ≡ b → p.rows ≤ r → Cut r (stored a p) (stored b p)
         by p true true e f h = goes_on {q = record { offset = p.offset; rows = suc p.rows }} (omega (arith, ltb-true p.rows r e))

@@ -1,4 +1,6 @@
 -- A declaration has seventeen bytes and more, so that a declaration list for a seventeenth of the source's bytes is never short.
+use Rattle.token.specs.declared.Class.{Class}
+use Rattle.token.specs.Token.{Lexed}
 use mathlib.Core.Path.{◌≡◌, refl, sym, ap}
 use mathlib.Core.Logic.{◌⊎◌, inl, inr}
 use mathlib.Core.Bool.{Bool, true, false}
@@ -9,7 +11,6 @@ use native.Mathlib.Omega.{arith}
 use lib.ListN.{length}
 use Rattle.token.specs.declared.TokenKind.{TokenKind}
 use Rattle.token.specs.declared.Token.{Token}
-use Rattle.token.specs.declared.Lexed.{Lexed}
 use Rattle.token.proofs.Bounds.{SpanOf}
 use Rattle.words.specs.Words.{ascii, same_bytes}
 use Rattle.words.proofs.Names.{same_eq}
@@ -144,7 +145,7 @@ module _ (E : Edition) (F : Fine E) (s : List ℕ) (whole_term : Reader (Tree La
         let y = span_high t.kind p.offset t.start t.end hi h.high a.span in
         let e = a.end in
         let r = a.rows in
-        comes_require (ListFrom p) (ends k) (at_token 1 t) (pure []) q refl
+        comes_require (ListFrom p) (ends k) (at_token Class.Malformed t) (pure []) q refl
         (λ b. record { stored = record { rows = omega arith; slow = omega (arith, y.0); high = omega (arith, y.1) }; bytes = omega (arith, y.0) })
 
     onwards_comes : (p q : Position) (t : Token) (k : TokenKind) (more : Reader (List Declaration)) → t.kind ≡ k → Held hi p → Taken next hi (F.tokens s) p t q

@@ -1,4 +1,5 @@
 -- Reading with less room ends as with more room, or with 8 or 9, whichever is met first.
+use Rattle.token.specs.declared.Class.{Class}
 use mathlib.Core.Path.{◌≡◌, refl, sym, ap, ◌∙◌, subst}
 use mathlib.Core.List.{List, ◌∷◌}
 use mathlib.Core.Option.{Option, none, some}
@@ -29,8 +30,8 @@ use Rattle.least_storage.proofs.Cut.{Cut, goes_on, stops, full, Under, name_unde
 -- What less room gives, where more room refuses for c.
 pub data Stopped (c : Refusal) : Result (List Declaration) → Type 0 where
   as_before : Stopped c (refused c)
-  no_row : Stopped c (refused (nowhere 8))
-  no_declaration : Stopped c (refused (nowhere 9))
+  no_row : Stopped c (refused (nowhere Class.SurfaceFull))
+  no_declaration : Stopped c (refused (nowhere Class.DeclarationsFull))
 
 -- `Ends r d n x y`: what room for r rows, of which n are taken, and for d declarations gives, x, where more room gives y.
 abbrev pub Ends : (r d n : ℕ) → Result (List Declaration) → Result (List Declaration) → Type 0
@@ -51,7 +52,7 @@ ends_require r d n false c p f g h = as_before
 abbrev in_front : Declaration → Result (List Declaration) → Result (List Declaration)
 in_front e x = after x (λ l. pure (e ∷ l))
 
-push : (e : Declaration) (o : Option ℕ) (l : List Declaration) (u : Position) → in_front e (cut_short o (done l u)) ≡ cut_short o (done (e ∷ l) u)
+push : (e : Declaration) (o : Option Class) (l : List Declaration) (u : Position) → in_front e (cut_short o (done l u)) ≡ cut_short o (done (e ∷ l) u)
 push e none l u = refl
 push e (some c) l u = refl
 
@@ -65,21 +66,21 @@ module _ (r : ℕ) where
       → Ends r (suc d) n (in_front e x) (in_front e y)
   goes_front d n k e x (done l u) i h w =
       ap (in_front e) w ∙ push e (met_first r d k l) l u
-      ∙ ap (λ (o : Option ℕ). cut_short o (done (e ∷ l) u))
+      ∙ ap (λ (o : Option Class). cut_short o (done (e ∷ l) u))
       (ap (λ (m : ℕ). met_first r d m l) i ∙ ap (λ (b : Bool). past b (met_first r d (next n (trees e)) l)) (sym (le-ltb r (next n (trees e)) (omega arith))))
   goes_front d n k e x (refused c) i h w = stopped_front e c x w
 
   full_front : (d n k : ℕ) (e : Declaration) (y : Result (List Declaration)) → k ≡ next n (trees e) → r < k
-      → Ends r (suc d) n (refused (nowhere 8)) (in_front e y)
+      → Ends r (suc d) n (refused (nowhere Class.SurfaceFull)) (in_front e y)
   full_front d n k e (done l u) i h =
       ap (λ (b : Bool). cut_short (past b (met_first r d (next n (trees e)) l)) (done (e ∷ l) u)) (sym (lt-ltb r (next n (trees e)) (omega arith)))
   full_front d n k e (refused c) i h = no_row
 
-  nine_front : (n : ℕ) (e : Declaration) (y : Result (List Declaration)) → Ends r 0 n (refused (nowhere 9)) (in_front e y)
+  nine_front : (n : ℕ) (e : Declaration) (y : Result (List Declaration)) → Ends r 0 n (refused (nowhere Class.DeclarationsFull)) (in_front e y)
   nine_front n e (done l u) = refl
   nine_front n e (refused c) = no_declaration
 
-  nine_ends : (n : ℕ) (y : Result Declaration) (k : Reader (List Declaration)) → Ends r 0 n (refused (nowhere 9)) (after y (λ e q. in_front e (k q)))
+  nine_ends : (n : ℕ) (y : Result Declaration) (k : Reader (List Declaration)) → Ends r 0 n (refused (nowhere Class.DeclarationsFull)) (after y (λ e q. in_front e (k q)))
   nine_ends n (done e q) k = nine_front n e (k q)
   nine_ends n (refused c) k = no_declaration
 
@@ -99,7 +100,7 @@ module _ (r : ℕ) where
     ending_ends : (d n : ℕ) (t : Token) (k : TokenKind) (v : Position)
         → Ends r d n (ending E s f declared_name ends t k v) (ending E s g declared_name ends t k v)
     unfolding ending
-    ending_ends d n t k v = ends_require r d n (ends k) (at_token 1 t) v _ _ refl
+    ending_ends d n t k v = ends_require r d n (ends k) (at_token Class.Malformed t) v _ _ refl
 
     onwards_ends : (d n : ℕ) (a b : Reader (List Declaration)) (t : Token) (k : TokenKind) (v : Position) → (k ≡ TokenKind.LParen → Ends r d n (a v) (b v))
         → Ends r d n (onwards E s f declared_name ends a t k v) (onwards E s g declared_name ends b t k v)

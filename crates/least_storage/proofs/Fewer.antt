@@ -1,4 +1,6 @@
 -- Loading with the storage that `storage` gives, or with less.
+use Rattle.token.specs.declared.Class.{Class}
+use Rattle.std.specs.Prelude.{Err}
 use mathlib.Core.Path.{◌≡◌, refl, sym, ap, ◌∙◌}
 use mathlib.Core.List.{List}
 use mathlib.Core.Option.{Option}
@@ -8,12 +10,11 @@ use lib.Dec.{leb}
 use lib.ListN.{length}
 use borrow.Author.Tests.{le-leb}
 use Rattle.terms.specs.Label.{Declaration}
-use Rattle.surface.specs.declared.Answer.{Answer}
 use Rattle.surface.specs.Reader.{start, done, nowhere}
 use Rattle.surface.specs.Tables.{Lengths}
 use Rattle.surface.specs.Loading.{parsing, load}
 use Rattle.surface.proofs.Takes.{require_go}
-use Rattle.least_storage.specs.declared.Storage.TheVariants.{Needs}
+use Rattle.least_storage.specs.Answer.{needs}
 use Rattle.least_storage.specs.Storage.{storage}
 use Rattle.least_storage.specs.Statements.{cut_short, ExactIsEnough, RowFewer, DeclarationFewer, CoreFewer, MetByLoading, OneOfEach}
 use Rattle.least_storage.proofs.MetFirst.{met_none, met_nine, met_eight, fewer}
@@ -22,7 +23,7 @@ use Rattle.least_storage.proofs.Needed.{Known, known}
 use Rattle.least_storage.proofs.Loaded.{refused_load, core_holds, core_full, alike_by}
 
 pub met_by_loading : MetByLoading
-met_by_loading s z ds q c e i = refused_load s z (nowhere c) (met_first_holds s z ds q e ∙ ap (λ (o : Option ℕ). cut_short o (done ds q)) i)
+met_by_loading s z ds q c e i = refused_load s z (nowhere c) (met_first_holds s z ds q e ∙ ap (λ (o : Option Class). cut_short o (done ds q)) i)
 
 -- Parsing asks of the work area only that it is large enough.
 another_area : (s : List ℕ) (z : Lengths) (work : ℕ) → 16384 ≤ z.work → 16384 ≤ work
@@ -40,7 +41,7 @@ module _ (s : List ℕ) (work rows count frames : ℕ) (k : Known s work rows co
   room_parses w h i =
       another_area s z work w k.area
       ∙ met_first_holds s (record { surface = z.surface; core = z.core; declarations = z.declarations; work = work }) ds k.position k.parsed
-      ∙ ap (λ (o : Option ℕ). cut_short o (done ds k.position))
+      ∙ ap (λ (o : Option Class). cut_short o (done ds k.position))
       (met_none (z.surface / 8) (z.declarations / 5) 0 ds (omega (arith, k.count_is)) (omega (arith, k.rows_are)))
 
 pub exact_is_enough : ExactIsEnough
@@ -55,19 +56,19 @@ exact_is_enough s rows count frames x z e h g w =
 pub row_fewer : RowFewer
 row_fewer s rows count frames z e h i =
     let k = known s z.work rows count frames e in
-    met_by_loading s z k.module_read k.position 8 k.parsed
+    met_by_loading s z k.module_read k.position Class.SurfaceFull k.parsed
     (met_eight (z.surface / 8) (z.declarations / 5) 0 k.module_read (omega arith) (omega (arith, k.count_is)) (omega (arith, k.rows_are)))
 
 -- Where a single row is missing at most, as the first declaration that there is no room for has one.
-nine_first : (s : List ℕ) (rows count frames : ℕ) (z : Lengths) → storage s z.work ≡ Needs rows count frames → rows ≤ suc (z.surface / 8)
+nine_first : (s : List ℕ) (rows count frames : ℕ) (z : Lengths) → storage s z.work ≡ needs rows count frames → rows ≤ suc (z.surface / 8)
     → z.declarations / 5 < count
-    → (load s z).answer ≡ Answer.Refused (nowhere 9)
+    → (load s z).answer ≡ Err (nowhere Class.DeclarationsFull)
 nine_first s rows count frames z e h i =
     let k = known s z.work rows count frames e in
     let ds = k.module_read in
     let d = z.declarations / 5 in
     let l : d < length ds = omega (arith, k.count_is) in
-    met_by_loading s z ds k.position 9 k.parsed (met_nine (z.surface / 8) d 0 ds l (omega (arith, k.rows_are, fewer d 0 ds l)))
+    met_by_loading s z ds k.position Class.DeclarationsFull k.parsed (met_nine (z.surface / 8) d 0 ds l (omega (arith, k.rows_are, fewer d 0 ds l)))
 
 pub declaration_fewer : DeclarationFewer
 declaration_fewer s rows count frames z e h i = nine_first s rows count frames z e (omega arith) i

@@ -1,4 +1,5 @@
 -- What a term begins with, and the bytes of it: a leaf has three and more, and a form two and more before its arguments.
+use Rattle.token.specs.Token.{Lexed}
 use mathlib.Core.Path.{◌≡◌, refl, sym, subst}
 use mathlib.Core.Bool.{true}
 use mathlib.Core.List.{List}
@@ -10,7 +11,6 @@ use lib.ListN.{length}
 use borrow.Author.Tests.{leb-true}
 use Rattle.token.specs.declared.TokenKind.{TokenKind}
 use Rattle.token.specs.declared.Token.{Token}
-use Rattle.token.specs.declared.Lexed.{Lexed}
 use Rattle.terms.specs.Forms.{Shape, alone, with_name, with_numeral, binding, plain, Form, Edition, form_of_word}
 use Rattle.terms.proofs.FormTable.{every, of_word, word_is}
 use Rattle.surface.specs.Text.{text}

@@ -1,4 +1,6 @@
 -- What holds of whatever a reader gives, where all that it refuses comes from the source and not from a lack of room, step by step.
+use Rattle.token.specs.Refusals.{number}
+use Rattle.token.specs.declared.Class.{Class}
 use mathlib.Core.Path.{◌≡◌, refl}
 use mathlib.Core.Bool.{Bool, true, false, ◌||◌}
 use Prim.Native.Nat.{ℕ}
@@ -7,8 +9,8 @@ use Rattle.token.specs.declared.Refusal.{Refusal}
 use Rattle.surface.specs.Reader.{Position, Result, done, refused, Reader, after, ◌>>◌, require}
 
 -- "1 malformed", 2 "for source versions other than 0 1 and 0 2", "3 reserved name", "7 more than 512 frames open in one term"
-abbrev pub from_source : ℕ → Bool
-from_source c = eqb c 1 || (eqb c 2 || (eqb c 3 || eqb c 7))
+abbrev pub from_source : Class → Bool
+from_source k = let c : ℕ = number k in eqb c 1 || (eqb c 2 || (eqb c 3 || eqb c 7))
 
 abbrev pub Comes : {A : Type 0} → (A → Position → Type 0) → Result A → Type 0
 Comes P (done a q) = P a q

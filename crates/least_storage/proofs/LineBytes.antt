@@ -1,11 +1,11 @@
 -- The bytes of the lines of a head, token by token. They store no row.
+use Rattle.token.specs.Token.{Lexed}
 use mathlib.Core.List.{List}
 use Prim.Native.Nat.{ℕ, ◌+◌, ◌≤◌}
 use native.Mathlib.Omega.{arith}
 use lib.ListN.{length}
 use mathlib.Core.Path.{◌≡◌}
 use Rattle.token.specs.declared.Token.{Token}
-use Rattle.token.specs.declared.Lexed.{Lexed}
 use Rattle.surface.specs.Reader.{Position, Result, Reader, after}
 use Rattle.surface.specs.Reading.{opening, closing, word, natural}
 use Rattle.least_storage.proofs.FromSource.{Comes, comes_as, comes_after}

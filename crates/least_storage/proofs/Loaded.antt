@@ -1,4 +1,6 @@
 -- What loading does with what is parsed.
+use Rattle.token.specs.declared.Class.{Class}
+use Rattle.std.specs.Prelude.{Err}
 use mathlib.Core.Path.{◌≡◌, refl, sym, ap, ◌∙◌, subst}
 use mathlib.Core.List.{List, [], ◌∷◌, ◌++◌}
 use mathlib.Core.Option.{Option, none, some}
@@ -9,7 +11,6 @@ use borrow.Author.Tests.{le-leb, lt-leb}
 use Rattle.token.specs.declared.Refusal.{Refusal}
 use Rattle.terms.specs.Label.{Name, Label, Declaration, declared_name}
 use Rattle.terms.specs.Resolution.{find, resolve_declaration, first_unknown, RefusedName, refused_name, first_refused}
-use Rattle.surface.specs.declared.Answer.{Answer}
 use Rattle.surface.specs.Reader.{Position, start, Result, done, refused, after, require, nowhere}
 use Rattle.surface.specs.Tables.{Lengths}
 use Rattle.surface.specs.Loading.{parsing, reading, accept, loading, outcome, load}
@@ -21,10 +22,10 @@ abbrev pub names : List ℕ → List Declaration → Position → Result (List D
 names s ds p = after (accept (first_refused s [] ds) p) (λ _ r. done ds r)
 
 abbrev pub tested : List ℕ → List Declaration → Position → Bool → Result (List Declaration)
-tested s ds p b = after (after (require b (nowhere 10) p) (λ _ r. done ds r)) (names s)
+tested s ds p b = after (after (require b (nowhere Class.CoreShort) p) (λ _ r. done ds r)) (names s)
 
 abbrev pub rest : List ℕ → ℕ → Result (List Declaration) → Result (List Declaration)
-rest s core x = after (after x (λ ds p. after (require (leb p.rows core) (nowhere 10) p) (λ _ r. done ds r))) (names s)
+rest s core x = after (after x (λ ds p. after (require (leb p.rows core) (nowhere Class.CoreShort) p) (λ _ r. done ds r))) (names s)
 
 pub loads_by : (s : List ℕ) (z : Lengths) → loading s z start ≡ rest s (z.core / 8) (parsing s z start)
 unfolding loading reading
@@ -35,7 +36,7 @@ unfolding load
 answers_by s z = ap (λ (x : Result (List Declaration)). (outcome s z x).answer) (loads_by s z)
 
 -- A refusal of parsing is the answer of loading.
-pub refused_load : (s : List ℕ) (z : Lengths) (c : Refusal) → parsing s z start ≡ refused c → (load s z).answer ≡ Answer.Refused c
+pub refused_load : (s : List ℕ) (z : Lengths) (c : Refusal) → parsing s z start ≡ refused c → (load s z).answer ≡ Err c
 refused_load s z c e = answers_by s z ∙ ap (λ (x : Result (List Declaration)). (outcome s z (rest s (z.core / 8) x)).answer) e
 
 -- Enough core rows, and too few.
@@ -44,7 +45,7 @@ pub core_holds : (s : List ℕ) (z : Lengths) (ds : List Declaration) (q : Posit
 core_holds s z ds q e h = loads_by s z ∙ ap (rest s (z.core / 8)) e ∙ ap (tested s ds q) (le-leb q.rows (z.core / 8) h)
 
 pub core_full : (s : List ℕ) (z : Lengths) (ds : List Declaration) (q : Position) → parsing s z start ≡ done ds q → z.core / 8 < q.rows
-    → (load s z).answer ≡ Answer.Refused (nowhere 10)
+    → (load s z).answer ≡ Err (nowhere Class.CoreShort)
 core_full s z ds q e h =
     answers_by s z ∙ ap (λ (x : Result (List Declaration)). (outcome s z (rest s (z.core / 8) x)).answer) e
     ∙ ap (λ (b : Bool). (outcome s z (tested s ds q b)).answer) (lt-leb q.rows (z.core / 8) h)
@@ -76,8 +77,8 @@ late s g (d ∷ l) =
     go (find (declared_name s d) g) (first_unknown (resolve_declaration s g d)) (first_refused s h l) (late s h l)
   where
     go : (a : Option ℕ) (b : Option Label) (o : Option RefusedName) → Late o → Late (elim a as (λ _. Option RefusedName) [
-      | some i ↦ some (refused_name 4 d.start d.length)
-      | none ↦ elim b as (λ _. Option RefusedName) [ some u ↦ some (refused_name 5 u.start u.length) | none ↦ o ]
+      | some i ↦ some (refused_name Class.DuplicateName d.start d.length)
+      | none ↦ elim b as (λ _. Option RefusedName) [ some u ↦ some (refused_name Class.UnknownName u.start u.length) | none ↦ o ]
     ])
     go (some i) b o h = (refl, refl)
     go none (some u) o h = (refl, refl)

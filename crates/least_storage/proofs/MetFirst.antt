@@ -1,4 +1,5 @@
 -- Which of 8 and 9 is met first, by the rows of the declarations for which there is room.
+use Rattle.token.specs.declared.Class.{Class}
 use mathlib.Core.Path.{◌≡◌, refl, ap, ◌∙◌}
 use mathlib.Core.List.{List, [], ◌∷◌}
 use mathlib.Core.Option.{Option, none, some}
@@ -27,7 +28,7 @@ met_none r (suc d) n (e ∷ l) h k =
     ∙ met_none r d (next n (trees e)) l (omega arith) k
 
 -- The rows of the first d declarations fit, and there is one declaration more.
-pub met_nine : (r d n : ℕ) (ds : List Declaration) → d < length ds → total n (take d ds) ≤ r → met_first r d n ds ≡ some 9
+pub met_nine : (r d n : ℕ) (ds : List Declaration) → d < length ds → total n (take d ds) ≤ r → met_first r d n ds ≡ some Class.DeclarationsFull
 met_nine r d n [] h k = absurd (omega arith)
 met_nine r zero n (e ∷ l) h k = refl
 met_nine r (suc d) n (e ∷ l) h k =
@@ -35,13 +36,13 @@ met_nine r (suc d) n (e ∷ l) h k =
     ∙ met_nine r d (next n (trees e)) l (omega arith) k
 
 -- There is room for as many declarations, and not for their rows.
-pub met_eight : (r d n : ℕ) (ds : List Declaration) → n ≤ r → length ds ≤ d → r < total n ds → met_first r d n ds ≡ some 8
+pub met_eight : (r d n : ℕ) (ds : List Declaration) → n ≤ r → length ds ≤ d → r < total n ds → met_first r d n ds ≡ some Class.SurfaceFull
 met_eight r d n [] h i k = absurd (omega arith)
 met_eight r zero n (e ∷ l) h i k = absurd (omega arith)
 met_eight r (suc d) n (e ∷ l) h i k = go (λ j. met_eight r d (next n (trees e)) l j (omega arith) k) (ltb r (next n (trees e))) refl
   where
-    go : (next n (trees e) ≤ r → met_first r d (next n (trees e)) l ≡ some 8) → (b : Bool) → ltb r (next n (trees e)) ≡ b
-        → past b (met_first r d (next n (trees e)) l) ≡ some 8
+    go : (next n (trees e) ≤ r → met_first r d (next n (trees e)) l ≡ some Class.SurfaceFull) → (b : Bool) → ltb r (next n (trees e)) ≡ b
+        → past b (met_first r d (next n (trees e)) l) ≡ some Class.SurfaceFull
     go ih true f = refl
     go ih false f = ih (ltb-false r (next n (trees e)) f)
 
@@ -52,16 +53,16 @@ fewer zero n (e ∷ l) h = omega (arith, a_row n e, total_grows (next n (trees e
 fewer (suc d) n (e ∷ l) h = fewer d (next n (trees e)) l (omega arith)
 
 -- It is 8 or 9.
-pub data Short : Option ℕ → Type 0 where
+pub data Short : Option Class → Type 0 where
   nothing : Short none
-  eight : Short (some 8)
-  nine : Short (some 9)
+  eight : Short (some Class.SurfaceFull)
+  nine : Short (some Class.DeclarationsFull)
 
 pub met_short : (r d n : ℕ) (ds : List Declaration) → Short (met_first r d n ds)
 met_short r d n [] = nothing
 met_short r zero n (e ∷ l) = nine
 met_short r (suc d) n (e ∷ l) = go (ltb r (next n (trees e))) (met_first r d (next n (trees e)) l) (met_short r d (next n (trees e)) l)
   where
-    go : (b : Bool) (o : Option ℕ) → Short o → Short (past b o)
+    go : (b : Bool) (o : Option Class) → Short o → Short (past b o)
     go true o h = eight
     go false o h = h

@@ -16,7 +16,9 @@ use Rattle.surface.proofs.Steps.{after_elim, require_elim, done_as}
 use Rattle.surface.proofs.SoundModule.{sound}
 use Rattle.surface.proofs.CompleteModule.{complete, unique}
 use Rattle.surface.proofs.Acceptance.{is_parsed, reads}
-use Rattle.least_storage.specs.declared.Storage.TheVariants.{Needs}
+use Rattle.std.specs.Prelude.{Ok}
+use Rattle.least_storage.specs.declared.Needs.{Needs}
+use Rattle.least_storage.specs.Answer.{Storage, needs}
 use Rattle.least_storage.specs.Storage.{needed, storage}
 use Rattle.least_storage.specs.Statements.{NeedsOfModule, FewerThanBytes, FramesNeeded}
 use Rattle.least_storage.proofs.Parsed.{Roomy, parsing_roomy, parsed_alike}
@@ -33,16 +35,20 @@ pub record Known (s : List ℕ) (work rows count frames : ℕ) : Type 0 where
   pub area : 16384 ≤ work
   pub rows_read : position.rows ≡ rows
 
-pub known : (s : List ℕ) (work rows count frames : ℕ) → storage s work ≡ Needs rows count frames → Known s work rows count frames
+needs_inj : {m n : Needs} → ◌≡◌ {A = Storage} (Ok m) (Ok n) → m ≡ n
+needs_inj e = cc
+
+pub known : (s : List ℕ) (work rows count frames : ℕ) → storage s work ≡ needs rows count frames → Known s work rows count frames
 unfolding storage
 known s work rows count frames e = go (parsing s (ample s work) start) refl e
   where
-    go : (x : Result (List Declaration)) → parsing s (ample s work) start ≡ x → needed x ≡ Needs rows count frames → Known s work rows count frames
+    go : (x : Result (List Declaration)) → parsing s (ample s work) start ≡ x → needed x ≡ needs rows count frames → Known s work rows count frames
     go (done ds q) f g =
         let i = is_parsed s (ample s work) ds q f in
-        let a : q.rows ≡ rows = cc in
-        let b : length ds ≡ count = cc in
-        let c : deepest ds ≡ frames = cc in
+        let n = needs_inj g in
+        let a : q.rows ≡ rows = ap (λ (n : Needs). n.rows) n in
+        let b : length ds ≡ count = ap (λ (n : Needs). n.declarations) n in
+        let c : deepest ds ≡ frames = ap (λ (n : Needs). n.frames) n in
         record {
           module_read = ds;
           position = q;
@@ -82,7 +88,7 @@ needs_of_module s work rows count frames = (
   λ h. let ds = h.declarations in
       let w = parses s work ds h.readable h.area in
       let i : w.0.rows ≡ rows = omega (arith, (is_parsed s (ample s work) ds w.0 w.1).rows, total_surface 0 ds, h.rows_are) in
-      ap needed w.1 ∙ (λ j. Needs (i j) (sym h.count_is j) (sym h.frames_are j)),
+      ap needed w.1 ∙ (λ j. needs (i j) (sym h.count_is j) (sym h.frames_are j)),
 )
 
 pub fewer_than_bytes : FewerThanBytes

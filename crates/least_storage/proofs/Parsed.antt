@@ -7,7 +7,9 @@ use Prim.Native.Nat.{ℕ, ◌+◌, ◌/◌, ◌≤◌}
 use native.Mathlib.Omega.{arith}
 use lib.Dec.{leb, eqb}
 use lib.ListN.{length}
+use Rattle.token.specs.declared.Class.{Class}
 use Rattle.token.specs.declared.Refusal.{Refusal}
+use Rattle.token.specs.Refusals.{number}
 use Rattle.utf8.specs.Utf8.{valid_length, byte_order_mark}
 use Rattle.terms.specs.Label.{Declaration}
 use Rattle.surface.specs.Reader.{start, Result, done, refused, Reader, after, require}
@@ -34,7 +36,7 @@ some_more false false false false false f h = absurd (false≢true h)
 
 fits_roomy : (s : List ℕ) (x : Result (List Declaration)) → Fits s x → Roomy s x
 fits_roomy s (done ds q) h = h
-fits_roomy s (refused r) h = let c = r.class in some_more (eqb c 1) (eqb c 2) (eqb c 3) (eqb c 6) (eqb c 7) (eqb c 11) h
+fits_roomy s (refused r) h = let c = number r.class in some_more (eqb c 1) (eqb c 2) (eqb c 3) (eqb c 6) (eqb c 7) (eqb c 11) h
 
 roomy_require : (s : List ℕ) (t : Bool) (c : Refusal) (k : Unit {0} → Reader (List Declaration)) → storage_refusal c.class ≡ true → Roomy s (k tt start)
     → Roomy s (after (require t c start) k)
@@ -54,7 +56,7 @@ parsing_roomy s z h k =
 ends_same : (r d n : ℕ) (s : List ℕ) (x y : Result (List Declaration)) → Roomy s x → Ends r d n x y → x ≡ y
 ends_same r d n s x (done ds q) k e = go (met_first r d n ds) (met_short r d n ds) e
   where
-    go : (o : Option ℕ) → Short o → x ≡ cut_short o (done ds q) → x ≡ done ds q
+    go : (o : Option Class) → Short o → x ≡ cut_short o (done ds q) → x ≡ done ds q
     go o nothing f = f
     go o eight f = absurd (false≢true (subst (Roomy s) f k))
     go o nine f = absurd (false≢true (subst (Roomy s) f k))

@@ -1,14 +1,15 @@
 -- A proof of each statement of specs/Statements.
+use Rattle.token.specs.Token.{Place}
+use Rattle.std.specs.Prelude.{Err, Some, None}
 use mathlib.Core.Path.{◌≡◌, sym, ap}
 use mathlib.Core.List.{[], ◌∷◌}
 use Prim.Native.Nat.{ℕ}
 use native.Mathlib.Omega.{arith}
 use lib.ListN.{length}
-use Rattle.token.specs.declared.Place.{Place}
-use Rattle.surface.specs.declared.Answer.{Answer}
+use Rattle.std.specs.Prelude.{Ok, Err}
 use Rattle.surface.specs.Reports.{Report, offsets}
 use Rattle.surface.proofs.Reports.{report_tells}
-use Rattle.least_storage.specs.declared.Storage.TheVariants.{Needs, Refused}
+use Rattle.least_storage.specs.Answer.{needs}
 use Rattle.least_storage.specs.Statements.{NeedsOfModule, ExactIsEnough, RowFewer, DeclarationFewer, CoreFewer, MetFirst, MetByLoading, OneOfEach, RefusedHere, OnlyThese, FewerThanBytes, BytesAreEnough, NeverFull, RefusedThere, FramesNeeded, StorageTells}
 use Rattle.least_storage.proofs.Parsed as parsed
 use Rattle.least_storage.proofs.Needed as needed
@@ -62,19 +63,19 @@ frames_needed = needed.frames_needed
 
 -- A refusal has one value at most, and the figures are three.
 few : (p : Place) (a b c : ℕ) → a ∷ b ∷ c ∷ [] ≡ offsets p → ⊥
-few (Place.At x) a b c e = let k : ◌≡◌ {A = ℕ} 3 1 = ap length e in omega arith
-few Place.Nowhere a b c e = let k : ◌≡◌ {A = ℕ} 3 0 = ap length e in omega arith
+few (Some x) a b c e = let k : ◌≡◌ {A = ℕ} 3 1 = ap length e in omega arith
+few None a b c e = let k : ◌≡◌ {A = ℕ} 3 0 = ap length e in omega arith
 
 pub storage_tells : StorageTells
-storage_tells (Needs a b c) (Needs x y z) e =
-    let v : a ∷ b ∷ c ∷ [] ≡ x ∷ y ∷ z ∷ [] = ap (λ (r : Report). r.values) e in
-    let i : a ≡ x = cc in
-    let j : b ≡ y = cc in
-    let k : c ≡ z = cc in
-    λ n. Needs (i n) (j n) (k n)
-storage_tells (Needs a b c) (Refused r) e = absurd (few r.place a b c (ap (λ (r : Report). r.values) e))
-storage_tells (Refused r) (Needs a b c) e = absurd (few r.place a b c (sym (ap (λ (r : Report). r.values) e)))
-storage_tells (Refused r) (Refused q) e =
-    let f = report_tells (Answer.Refused r) (Answer.Refused q) e in
+storage_tells (Ok m) (Ok n) e =
+    let v : m.rows ∷ m.declarations ∷ m.frames ∷ [] ≡ n.rows ∷ n.declarations ∷ n.frames ∷ [] = ap (λ (r : Report). r.values) e in
+    let i : m.rows ≡ n.rows = cc in
+    let j : m.declarations ≡ n.declarations = cc in
+    let k : m.frames ≡ n.frames = cc in
+    λ x. needs (i x) (j x) (k x)
+storage_tells (Ok n) (Err r) e = absurd (few r.place n.rows n.declarations n.frames (ap (λ (r : Report). r.values) e))
+storage_tells (Err r) (Ok n) e = absurd (few r.place n.rows n.declarations n.frames (sym (ap (λ (r : Report). r.values) e)))
+storage_tells (Err r) (Err q) e =
+    let f = report_tells (Err r) (Err q) e in
     let i : r ≡ q = cc in
-    ap Refused i
+    ap Err i

@@ -1,5 +1,7 @@
 -- The same for a core text: three bytes and more for each row, seventeen and more for each declaration, the shortest of which is
 -- `(postulate"a"nat)`; or a refusal that comes from the text.
+use Rattle.token.specs.declared.Class.{Class}
+use Rattle.token.specs.Token.{Lexed}
 use mathlib.Core.Path.{◌≡◌, refl}
 use mathlib.Core.Logic.{inl}
 use mathlib.Core.Bool.{Bool, true, false, ◌&&◌}
@@ -9,7 +11,6 @@ use native.Mathlib.Omega.{arith}
 use lib.ListN.{length}
 use Rattle.token.specs.declared.TokenKind.{TokenKind}
 use Rattle.token.specs.declared.Token.{Token}
-use Rattle.token.specs.declared.Lexed.{Lexed}
 use Rattle.core_token.specs.CoreToken.{next_core_token}
 use Rattle.core_token.proofs.Outcomes.{every_token}
 use Rattle.core_token.proofs.Bounds.{bounds}
@@ -54,7 +55,7 @@ module _ (t : List ℕ) where
   unfolding string
   string_line p =
       comes_after (Taken next hi (spread t) p) (LineOf Any hi 3 p) (token next p) _ (token_taken next hi (spread t) p)
-      (λ x q a. comes_require (LineOf Any hi 3 p) (is_string x.kind) (at_token 1 x)
+      (λ x q a. comes_require (LineOf Any hi 3 p) (is_string x.kind) (at_token Class.Malformed x)
       (pure (record { kind = TokenKind.String; start = x.start + 1; end = x.end - 1 })) q refl
       (λ y. let k = string_is x.kind y in
       let w = taken_ahead next hi (spread t) p x q a (λ i. let z : ◌≡◌ {A = ℕ} 0 1 = cc in omega arith) in
@@ -84,7 +85,7 @@ module _ (t : List ℕ) where
       line_after Any Any hi 1 0 q₃ (closing next q₃) _ (closing_line next hi (spread t) q₃) (λ f q₄ v₄ k₄.
       by q₄ k₄ (zero_one t a b && (same_bytes (text t n) (ascii "mltt-core") && zero_one t d e)))))))))))))))
     where
-      by : (q : Position) → q.offset ≤ hi → (y : Bool) → Comes (LineOf Any hi 0 q) (require y (nowhere 2) q)
+      by : (q : Position) → q.offset ≤ hi → (y : Bool) → Comes (LineOf Any hi 0 q) (require y (nowhere Class.Version) q)
       by q h true = line_end {A = Unit {0}} Any hi q tt tt h
       by q h false = refl
 
@@ -102,7 +103,7 @@ module _ (t : List ℕ) where
   end_comes p h =
       comes_after (Taken next hi (spread t) p) (Ends p) (token next p) _ (token_taken next hi (spread t) p)
       (λ e q a. let w = span_high e.kind p.offset e.start e.end hi h a.span in let f = a.end in
-      comes_require (Ends p) (is_end e.kind) (at_token 1 e) (pure e) q refl
+      comes_require (Ends p) (is_end e.kind) (at_token Class.Malformed e) (pure e) q refl
       (λ y. record { bytes = omega (arith, w.0); high = omega (arith, w.1); rows = a.rows }))
 
   -- The head and the last parenthesis have forty-seven bytes at least.

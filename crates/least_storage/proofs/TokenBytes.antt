@@ -1,15 +1,15 @@
 -- The bytes of tokens, as the readers take them: each token but the end has bytes of its own, and two atoms stand apart.
+use Rattle.token.specs.declared.Class.{Class}
+use Rattle.std.specs.Prelude.{Ok, Err}
 use mathlib.Core.Path.{◌≡◌, refl, sym, ap, ◌∙◌}
 use mathlib.Core.Bool.{Bool, true, false, not, false≢true}
 use mathlib.Core.List.{List}
 use Prim.Native.Nat.{ℕ, ◌+◌, ◌-◌, ◌≤◌, ◌<◌, min}
 use native.Mathlib.Omega.{arith}
 use lib.ListN.{length, drop, length-take}
-use Rattle.token.specs.Token.{next_token}
+use Rattle.token.specs.Token.{next_token, Lexed}
 use Rattle.token.specs.declared.TokenKind.{TokenKind}
 use Rattle.token.specs.declared.Token.{Token}
-use Rattle.token.specs.declared.Lexed.{Lexed}
-use Rattle.token.specs.declared.Lexed.TheVariants.{Got, Refused}
 use Rattle.token.proofs.Outcomes.{every_token}
 use Rattle.token.proofs.Bounds.{Within, SpanOf, bounds}
 use Rattle.token.proofs.Apart.{atoms_apart}
@@ -25,14 +25,14 @@ use Rattle.least_storage.proofs.FromSource.{from_source, Comes, comes_after, com
 
 -- A refusal of the token function comes from the source.
 abbrev pub Lexes : Lexed → Type 0
-Lexes (Got t) = Unit {0}
-Lexes (Refused r) = from_source r.class ≡ true
+Lexes (Ok t) = Unit {0}
+Lexes (Err r) = from_source r.class ≡ true
 
 -- What is asked of the tokens of a source that has so many bytes.
 pub record Spread (next : ℕ → Lexed) (hi : ℕ) : Type 0 where
   pub within : (at : ℕ) → Within at hi (next at)
   pub lexes : (at : ℕ) → Lexes (next at)
-  pub apart : (at : ℕ) (t u : Token) → next at ≡ Got t → t.kind ≡ TokenKind.Atom → next t.end ≡ Got u → u.kind ≡ TokenKind.Atom → t.end < u.start
+  pub apart : (at : ℕ) (t u : Token) → next at ≡ Ok t → t.kind ≡ TokenKind.Atom → next t.end ≡ Ok u → u.kind ≡ TokenKind.Atom → t.end < u.start
 
 pub spread : (s : List ℕ) → Spread (next_token s) (length s)
 spread s = record {
@@ -59,7 +59,7 @@ text_bytes s w t e h =
 module _ (next : ℕ → Lexed) where
   -- No atom stands at an offset: one that is found there starts later.
   abbrev pub Gap : ℕ → Type 0
-  Gap at = (u : Token) → next at ≡ Got u → u.kind ≡ TokenKind.Atom → at < u.start
+  Gap at = (u : Token) → next at ≡ Ok u → u.kind ≡ TokenKind.Atom → at < u.start
 
   -- An atom.
   pub record AtomAhead (hi : ℕ) (p : Position) (t : Token) (q : Position) : Type 0 where
@@ -70,14 +70,14 @@ module _ (next : ℕ → Lexed) where
 module _ (next : ℕ → Lexed) (hi : ℕ) (S : Spread next hi) (p : Position) where
   -- Any token, also the end.
   pub record Taken (t : Token) (q : Position) : Type 0 where
-    pub takes : next p.offset ≡ Got t
+    pub takes : next p.offset ≡ Ok t
     pub span : SpanOf t.kind p.offset t.start t.end hi
     pub end : q.offset ≡ t.end
     pub rows : q.rows ≡ p.rows
 
   lexed_taken : (x : Lexed) → next p.offset ≡ x → Within p.offset hi x → Lexes x → Comes Taken (lexed p.rows x)
-  lexed_taken (Got t) e w l = record { takes = e; span = w; end = refl; rows = refl }
-  lexed_taken (Refused r) e w l = l
+  lexed_taken (Ok t) e w l = record { takes = e; span = w; end = refl; rows = refl }
+  lexed_taken (Err r) e w l = l
 
   pub token_taken : Comes Taken (token next p)
   unfolding token
@@ -89,10 +89,10 @@ module _ (next : ℕ → Lexed) (hi : ℕ) (S : Spread next hi) (p : Position) w
       record { low = h.low; some = h.some; high = h.high; end = a.end; rows = a.rows }
 
   -- A token for whose kind a test holds that does not hold for the end.
-  tested : (f : TokenKind → Bool) → f TokenKind.Eof ≡ false → Comes (Ahead hi p) ((token next >>= (λ t. require (f t.kind) (at_token 1 t) >> pure t)) p)
+  tested : (f : TokenKind → Bool) → f TokenKind.Eof ≡ false → Comes (Ahead hi p) ((token next >>= (λ t. require (f t.kind) (at_token Class.Malformed t) >> pure t)) p)
   tested f n =
       comes_after Taken (Ahead hi p) (token next p) _ token_taken
-      (λ t q a. comes_require (Ahead hi p) (f t.kind) (at_token 1 t) (pure t) q refl (λ y. taken_ahead t q a (λ i. false≢true (sym n ∙ ap f (sym i) ∙ y))))
+      (λ t q a. comes_require (Ahead hi p) (f t.kind) (at_token Class.Malformed t) (pure t) q refl (λ y. taken_ahead t q a (λ i. false≢true (sym n ∙ ap f (sym i) ∙ y))))
 
   pub opening_ahead : Comes (Ahead hi p) (opening next p)
   unfolding opening
@@ -113,21 +113,21 @@ module _ (next : ℕ → Lexed) (hi : ℕ) (S : Spread next hi) (p : Position) w
   unfolding atom
   atom_ahead =
       comes_after Taken (AtomAhead next hi p) (token next p) _ token_taken
-      (λ t q a. comes_require (AtomAhead next hi p) (is_atom t.kind) (at_token 1 t) (pure t) q refl (λ y. taken_atom t q a (atom_is t.kind y)))
+      (λ t q a. comes_require (AtomAhead next hi p) (is_atom t.kind) (at_token Class.Malformed t) (pure t) q refl (λ y. taken_atom t q a (atom_is t.kind y)))
 
   module _ (s : List ℕ) where
     pub word_ahead : (w : List ℕ) → Comes (λ t q. AtomAhead next hi p t q × (t.start + length w ≤ t.end)) (word next s w p)
     unfolding word
     word_ahead w =
         comes_after (AtomAhead next hi p) (λ t q. AtomAhead next hi p t q × (t.start + length w ≤ t.end)) (atom next p) _ atom_ahead
-        (λ t q a. comes_require (λ t q. AtomAhead next hi p t q × (t.start + length w ≤ t.end)) (same_bytes (text s t) w) (at_token 1 t) (pure t) q refl
+        (λ t q a. comes_require (λ t q. AtomAhead next hi p t q × (t.start + length w ≤ t.end)) (same_bytes (text s t) w) (at_token Class.Malformed t) (pure t) q refl
         (λ y. (a, text_bytes s w t (same_eq _ _ y) (omega (arith, a.ahead.some)))))
 
     pub natural_ahead : Comes (AtomAhead next hi p) (natural next s p)
     unfolding natural
     natural_ahead =
         comes_after (AtomAhead next hi p) (AtomAhead next hi p) (atom next p) _ atom_ahead
-        (λ t q a. comes_require (AtomAhead next hi p) (numeral (text s t)) (at_token 1 t) (pure t) q refl (λ y. a))
+        (λ t q a. comes_require (AtomAhead next hi p) (numeral (text s t)) (at_token Class.Malformed t) (pure t) q refl (λ y. a))
 
 module _ (E : Edition) (s : List ℕ) (S : Spread (E.tokens s) (length s)) (p : Position) where
   pub name_ahead : Comes (AtomAhead (E.tokens s) (length s) p) (name E s p)
@@ -135,5 +135,5 @@ module _ (E : Edition) (s : List ℕ) (S : Spread (E.tokens s) (length s)) (p : 
   name_ahead =
       let A = AtomAhead (E.tokens s) (length s) p in
       comes_after A A (atom (E.tokens s) p) _ (atom_ahead (E.tokens s) (length s) S p)
-      (λ t q a. comes_require A (not (E.reserved (text s t))) (at_token 3 t) (require (identifier (text s t)) (at_token 1 t) >> pure t) q refl
-      (λ y. comes_require A (identifier (text s t)) (at_token 1 t) (pure t) q refl (λ z. a)))
+      (λ t q a. comes_require A (not (E.reserved (text s t))) (at_token Class.ReservedName t) (require (identifier (text s t)) (at_token Class.Malformed t) >> pure t) q refl
+      (λ y. comes_require A (identifier (text s t)) (at_token Class.Malformed t) (pure t) q refl (λ z. a)))

@@ -1,5 +1,5 @@
 -- Document 02, Req 08, "Least storage for a source": the rows, declarations and open frames that it needs, or its refusal.
-use Rattle.std.specs.Prelude.{◌≡◌, List, [], ◌∷◌, ℕ, length}
+use Rattle.std.specs.Prelude.{◌≡◌, List, [], ◌∷◌, ℕ, length, Ok, Err}
 use Rattle.terms.specs.Label.{Declaration}
 use Rattle.terms.specs.Rows.{pad}
 use Rattle.surface.specs.Reader.{start, Result, done, refused}
@@ -7,14 +7,13 @@ use Rattle.surface.specs.Sizes.{deepest}
 use Rattle.surface.specs.Tables.{ample, Left, leaves}
 use Rattle.surface.specs.Reports.{Report, accepted, report_refusal}
 use Rattle.surface.specs.Loading.{parsing}
-use Rattle.least_storage.specs.declared.Storage.{Storage}
-use Rattle.least_storage.specs.declared.Storage.TheVariants.{Needs, Refused}
+use Rattle.least_storage.specs.Answer.{Storage, needs}
 
 -- "reports the rows, declarations and open frames it needs": a row for each term that was read. "The frames figure is the greatest number
 -- open together in one term, by a definition over the term's tree."
 abbrev pub needed : Result (List Declaration) → Storage
-needed (done ds p) = Needs p.rows (length ds) (deepest ds)
-needed (refused r) = Refused r
+needed (done ds p) = needs p.rows (length ds) (deepest ds)
+needed (refused r) = Err r
 
 -- "A new call reads a source": it does what `parse_surface` does, with tables that no source fills and a work area of so many words.
 -- "A source refused for 1, 2, 3, 6 or 7 gives that refusal here, and 11 is given as in loading. Names are not resolved".
@@ -31,5 +30,5 @@ Stores s before answer after = leaves answer after ≡ storage_left s (length be
 
 -- The number and values of the answer: the rows, the declarations and the open frames.
 abbrev pub report_storage : Storage → Report
-report_storage (Needs rows declarations frames) = accepted (rows ∷ declarations ∷ frames ∷ [])
-report_storage (Refused r) = report_refusal r
+report_storage (Ok n) = accepted (n.rows ∷ n.declarations ∷ n.frames ∷ [])
+report_storage (Err r) = report_refusal r

@@ -6,7 +6,7 @@ ghost use Rattle.std.specs.Prelude.{◌≡◌};
 ghost use Rattle.token.specs.Token.{next_token};
 ghost use Rattle.lexer.specs.Lexing.{offset_or, position_after, step_at};
 
-use token::{Lexed, Place};
+use token::{Refusal, Token};
 
 #[derive(Clone, Copy)]
 pub struct Lexer<'a> {
@@ -15,30 +15,24 @@ pub struct Lexer<'a> {
 }
 
 // What is read at a position, and the position behind it.
-#[derive(Clone, Copy)]
+#[derive(Clone, Copy, Debug, PartialEq, Eq)]
 pub struct Stepped {
-    pub lexed: Lexed,
+    pub lexed: Result<Token, Refusal>,
     pub pos: usize,
 }
 
-fn offset_or(place: Place, at: usize) -> usize
+fn offset_or(place: Option<usize>, at: usize) -> usize
     ensures { result ≡ offset_or at place }
 {
-    match place {
-        Place::At(pos) => pos,
-        Place::Nowhere => at,
-    }
+    place.unwrap_or(at)
 }
 
-fn position_after(lexed: Lexed, at: usize) -> usize
+fn position_after(lexed: Result<Token, Refusal>, at: usize) -> usize
     ensures { result ≡ position_after lexed at }
 {
     match lexed {
-        Lexed::Got(t) => t.end,
-        Lexed::Refused(refusal) => {
-            let place = refusal.place;
-            offset_or(place, at)
-        }
+        Ok(t) => t.end,
+        Err(refusal) => offset_or(refusal.place, at),
     }
 }
 
@@ -59,7 +53,7 @@ impl<'a> Lexer<'a> {
     }
 
     // The first token at or behind the lexer's position. The position moves on.
-    pub fn next_token<'s>(&'s mut self) -> Lexed
+    pub fn next_token<'s>(&'s mut self) -> Result<Token, Refusal>
         ensures { (result ≡ next_token self.old.input.now self.old.pos) × ((self.new.input ≡ self.old.input) × (self.new.pos ≡ position_after result self.old.pos)) }
     {
         let read = step(self.input, self.pos);

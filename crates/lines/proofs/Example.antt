@@ -1,7 +1,8 @@
 -- Listings that document 01's example does not show: digits, a body, and a refusal with and without an offset.
+use Rattle.token.specs.declared.Class.{Class}
+use Rattle.std.specs.Prelude.{Some, None}
 use mathlib.Core.Path.{◌≡◌, refl}
 use mathlib.Core.List.{[], ◌∷◌}
-use Rattle.token.specs.declared.Place.TheVariants.{At, Nowhere}
 use Rattle.words.specs.Words.{ascii}
 use Rattle.terms.specs.Forms.{forms, forms_0_2, form_of_kind, arity_of}
 use Rattle.text.specs.Text.{digits, decimal}
@@ -13,10 +14,10 @@ with_body : listing (ascii "universe 10, t") (3 ∷ 9 ∷ 2 ∷ 0 ∷ 0 ∷ 0 �
 unfolding listing first_line row_lines row_line row_fields kind_word numbers declaration_lines declaration_line declaration_word declaration_rows digits decimal forms forms_0_2 form_of_kind arity_of
 with_body = refl
 
-refused_at : refusal_line (record { class = 1; place = At 45 }) ≡ ascii "refused 1 at 45\n"
+refused_at : refusal_line (record { class = Class.Malformed; place = Some 45 }) ≡ ascii "refused 1 at 45\n"
 unfolding refusal_line place_text digits decimal
 refused_at = refl
 
-refused_nowhere : refusal_line (record { class = 12; place = Nowhere }) ≡ ascii "refused 12\n"
+refused_nowhere : refusal_line (record { class = Class.NoDeclaration; place = None }) ≡ ascii "refused 12\n"
 unfolding refusal_line place_text digits decimal
 refused_nowhere = refl

@@ -1,4 +1,7 @@
 -- How long the lines of a listing can be.
+use Rattle.token.specs.Refusals.{number}
+use Rattle.token.specs.Token.{Place}
+use Rattle.std.specs.Prelude.{Some, None}
 use Prim.Native.Nat.{ℕ, zero, suc, ◌+◌, ◌*◌, ◌/◌, ◌%◌, ◌≤◌}
 use mathlib.Core.Path.{◌≡◌, refl}
 use mathlib.Core.Bool.{Bool, true, false, ◌||◌, cond}
@@ -9,15 +12,13 @@ use native.Mathlib.Nat.{suc-mul}
 use lib.Dec.{leb, ltb, eqb}
 use lib.ListN.{length, get_or, drop, length-append, length-take}
 use borrow.Author.Tests.{leb-true}
-use Rattle.token.specs.declared.Place.TheVariants.{At, Nowhere}
-use Rattle.token.specs.declared.Place.{Place}
 use Rattle.token.specs.declared.Refusal.{Refusal}
 use Rattle.words.specs.Words.{ascii}
 use Rattle.terms.specs.Forms.{Form, forms, form_of_kind, arity_of, var_kind, global_kind, universe}
 use Rattle.terms.specs.Label.{part}
 use Rattle.terms.proofs.FormTable.{every, of_kind, arity_small}
 use Rattle.text.specs.Text.{digits, decimal}
-use Rattle.lines.specs.Listing.{spaced, line, kind_word, numbers, row_fields, row_line, row_lines, declaration_word, declaration_rows, declaration_line, declaration_lines, first_line, listing, place_text, refusal_line}
+use Rattle.lines.specs.Listing.{spaced, kind_word, numbers, row_fields, row_line, row_lines, declaration_word, declaration_rows, declaration_line, declaration_lines, first_line, listing, place_text, refusal_line}
 
 digits_short : (p n : ℕ) → length (digits p n) ≤ p
 unfolding digits
@@ -174,8 +175,8 @@ listing_short s core ds rows n =
 
 place_short : (p : Place) → length (place_text p) ≤ 24
 unfolding place_text
-place_short (At p) = omega (arith, length-append (ascii " at ") (decimal p), decimal_short p)
-place_short Nowhere = omega arith
+place_short (Some p) = omega (arith, length-append (ascii " at ") (decimal p), decimal_short p)
+place_short None = omega arith
 
 pub refusal_short : (r : Refusal) → length (refusal_line r) ≤ 53
 unfolding refusal_line
@@ -183,9 +184,9 @@ refusal_short r =
     let refused = ascii "refused " in
     omega (
       arith,
-      length-append (refused ++ decimal r.class ++ place_text r.place) (10 ∷ []),
-      length-append (refused ++ decimal r.class) (place_text r.place),
-      length-append refused (decimal r.class),
-      decimal_short r.class,
+      length-append (refused ++ decimal (number r.class) ++ place_text r.place) (10 ∷ []),
+      length-append (refused ++ decimal (number r.class)) (place_text r.place),
+      length-append refused (decimal (number r.class)),
+      decimal_short (number r.class),
       place_short r.place,
     )

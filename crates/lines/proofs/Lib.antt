@@ -1,4 +1,3 @@
-mod Parts
 mod Rows
 mod Example
 pub mod Lengths

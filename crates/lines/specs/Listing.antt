@@ -1,11 +1,11 @@
 -- Document 01, "The listing": the text that is printed for a loaded source, and for a refusal.
-use Rattle.std.specs.Prelude.{List, [], ◌∷◌, ◌++◌, Bool, true, false, ◌||◌, cond, ℕ, zero, suc, ◌+◌, ◌*◌, eqb, get_or}
-use Rattle.std.proofs.Math.Option.{Option, none, some}
-use Rattle.token.specs.declared.Place.TheVariants.{At, Nowhere}
-use Rattle.token.specs.declared.Place.{Place}
+use Rattle.token.specs.Refusals.{number}
+use Rattle.token.specs.Token.{Place}
+use Rattle.std.specs.Prelude.{List, [], ◌∷◌, ◌++◌, true, false, ◌||◌, ℕ, zero, suc, ◌+◌, ◌*◌, eqb, get_or, Some, None}
+use Rattle.std.proofs.Math.Option.{none, some}
 use Rattle.token.specs.declared.Refusal.{Refusal}
 use Rattle.words.specs.Words.{ascii}
-use Rattle.terms.specs.Forms.{Form, forms, form_of_kind, arity_of, var_kind, global_kind, universe}
+use Rattle.terms.specs.Forms.{forms, form_of_kind, arity_of, var_kind, global_kind, universe}
 use Rattle.terms.specs.Label.{part}
 use Rattle.text.specs.Text.{decimal}
 
@@ -76,9 +76,9 @@ unfoldable pub listing : List ℕ → List ℕ → List ℕ → ℕ → ℕ → 
 listing s core ds rows declarations = first_line rows declarations ++ row_lines s core rows 0 ++ declaration_lines s ds declarations 0
 
 unfoldable pub place_text : Place → List ℕ
-place_text (At p) = ascii " at " ++ decimal p
-place_text Nowhere = []
+place_text (Some p) = ascii " at " ++ decimal p
+place_text None = []
 
 -- "A refusal prints only `refused C` or `refused C at P`: class, offset."
 unfoldable pub refusal_line : Refusal → List ℕ
-refusal_line r = line (ascii "refused " ++ decimal r.class ++ place_text r.place)
+refusal_line r = line (ascii "refused " ++ decimal (number r.class) ++ place_text r.place)

@@ -12,20 +12,14 @@ use kind_words::{WORDS, kind_at};
 use rows::atom;
 use tables::word_at;
 use text::{put, put_byte, put_decimal};
-use token::{Place, Refusal};
+use token::Refusal;
 
 // The table from row k on, of rows that have so many words.
 fn rows_from(t: &[u32], width: usize, k: usize) -> &[u32]
     ensures { result.now ≡ drop (k * width) t.now }
 {
-    let n = t.len();
-    if width == 0 {
-        return t;
-    }
-    if n / width < k {
-        return &t[n..];
-    }
-    &t[k * width..]
+    let at = k.saturating_mul(width);
+    t.get(at..).unwrap_or(&[])
 }
 
 fn put_part(s: &[u8], start: u32, len: u32, out: &mut [u8], at: usize) -> usize
@@ -69,12 +63,10 @@ fn put_numbers(t: &[u32], i: u32, n: u32, out: &mut [u8], at: usize) -> usize
     ensures value { result ≡ length_in out.old (at + length (numbers n t.now i)) }
 {
     // An offset far behind the buffer's end is cut, also where nothing follows.
-    let mut pos = put(out, at, b"");
-    let mut j = 0;
-    while j < n {
-        let word = word_at(t, i as usize + j as usize);
-        pos = put_number(word as u64, out, pos);
-        j += 1;
+    let mut pos = at.min(out.len() + 1);
+    for j in 0..n as usize {
+        let word = word_at(t, i as usize + j);
+        pos = put_number(u64::from(word), out, pos);
     }
     pos
 }
@@ -120,11 +112,9 @@ fn put_rows(s: &[u8], core: &[u32], rows: usize, out: &mut [u8], at: usize) -> u
     ensures value { result ≡ length_in out.old (at + length (row_lines s.now core.now rows 0)) }
 {
     // An offset far behind the buffer's end is cut, also where nothing follows.
-    let mut pos = put(out, at, b"");
-    let mut k = 0;
-    while k < rows {
+    let mut pos = at.min(out.len() + 1);
+    for k in 0..rows {
         pos = put_row(s, core, k, out, pos);
-        k += 1;
     }
     pos
 }
@@ -164,11 +154,9 @@ fn put_declarations(
     ensures value { result ≡ length_in out.old (at + length (declaration_lines s.now declarations.now count 0)) }
 {
     // An offset far behind the buffer's end is cut, also where nothing follows.
-    let mut pos = put(out, at, b"");
-    let mut k = 0;
-    while k < count {
+    let mut pos = at.min(out.len() + 1);
+    for k in 0..count {
         pos = put_declaration(s, declarations, k, out, pos);
-        k += 1;
     }
     pos
 }
@@ -201,16 +189,16 @@ pub fn put_listing(
     put_declarations(s, declarations, count, out, pos)
 }
 
-fn put_place(place: Place, out: &mut [u8], at: usize) -> usize
+fn put_place(place: Option<usize>, out: &mut [u8], at: usize) -> usize
     ensures out_after { out.new ≡ sets out.old at (place_text place) }
     ensures value { result ≡ length_in out.old (at + length (place_text place)) }
 {
     match place {
-        Place::At(p) => {
+        Some(p) => {
             let next = put(out, at, b" at ");
             put_decimal(out, next, p as u64)
         }
-        Place::Nowhere => put(out, at, b""),
+        None => put(out, at, b""),
     }
 }
 
@@ -221,7 +209,7 @@ fn put_refusal_at(refusal: Refusal, out: &mut [u8], at: usize) -> usize
 {
     let place = refusal.place;
     let mut pos = put(out, at, b"refused ");
-    pos = put_decimal(out, pos, refusal.class as u64);
+    pos = put_decimal(out, pos, refusal.class.number() as u64);
     pos = put_place(place, out, pos);
     put_byte(out, pos, 10)
 }

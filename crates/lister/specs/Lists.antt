@@ -1,6 +1,6 @@
 -- Document 01, "The listing": what is written for a source.
-use Rattle.std.specs.Prelude.{◌≡◌, List, ℕ, length}
-use Rattle.surface.specs.declared.Answer.{Answer}
+use Rattle.std.specs.Prelude.{◌≡◌, List, ℕ, length, Ok, Err}
+use Rattle.surface.specs.Answer.{Answer}
 use Rattle.surface.specs.Tables.{Lengths, Tables, lengths}
 use Rattle.surface.specs.Loading.{load, Loads}
 use Rattle.text.specs.Text.{with_text, length_in}
@@ -9,8 +9,8 @@ use Rattle.lister.specs.declared.Listed.{Listed}
 
 -- The listing of an accepted source, or the refusal's line.
 abbrev pub text_of : List ℕ → Answer → List ℕ → List ℕ → List ℕ
-text_of s (Answer.Loaded rows declarations) core records = listing s core records rows declarations
-text_of s (Answer.Refused r) core records = refusal_line r
+text_of s (Ok l) core records = listing s core records l.rows l.declarations
+text_of s (Err r) core records = refusal_line r
 
 -- The text for a source, with tables of such lengths.
 unfoldable pub listing_text : List ℕ → Lengths → List ℕ

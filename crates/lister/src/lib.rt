@@ -7,44 +7,54 @@ ghost use Rattle.text.specs.Text.{with_text, length_in};
 ghost use Rattle.surface.specs.Tables.{tables};
 ghost use Rattle.lister.specs.Lists.{text_of, Lists};
 
-use reader::Method;
-use surface::Answer;
+use reader::{Frames, Method};
+use surface::Loaded;
+use token::Refusal;
 
 // What loading answers, and the length of the text.
 #[derive(Clone, Copy)]
 pub struct Listed {
-    pub answer: Answer,
+    pub answer: Result<Loaded, Refusal>,
     pub length: usize,
 }
 
 // The text of an answer with the tables that loading left.
-fn put_text(s: &[u8], core: &[u32], declarations: &[u32], answer: Answer, text: &mut [u8]) -> usize
+fn put_text(
+    s: &[u8],
+    core: &[u32],
+    declarations: &[u32],
+    answer: Result<Loaded, Refusal>,
+    text: &mut [u8],
+) -> usize
     ensures text_after { text.new ≡ with_text text.old (text_of s.now answer core.now declarations.now) }
     ensures value { result ≡ length_in text.old (length (text_of s.now answer core.now declarations.now)) }
 {
     match answer {
-        Answer::Refused(refusal) => lines::put_refusal(refusal, text),
-        Answer::Loaded {
-            rows,
-            declarations: count,
-        } => lines::put_listing(s, core, declarations, rows, count, text),
+        Ok(loaded) => lines::put_listing(
+            s,
+            core,
+            declarations,
+            loaded.rows,
+            loaded.declarations,
+            text,
+        ),
+        Err(refusal) => lines::put_refusal(refusal, text),
     }
 }
 
 // Loads a source by either reader and writes its listing from the beginning of the buffer on. A text that does not fit is cut, and its length is then told as
 // one more than the buffer has.
-pub fn list_by(
+pub fn list_by<M: Method>(
     s: &[u8],
     surface: &mut [u32],
     core: &mut [u32],
     declarations: &mut [u32],
     work: &mut [u32],
     text: &mut [u8],
-    method: Method,
 ) -> Listed
     ensures { Lists s.now (tables surface.old core.old declarations.old work.old) text.old result (tables surface.new core.new declarations.new work.new) text.new }
 {
-    let answer = loader::load_by(s, surface, core, declarations, work, method);
+    let answer = loader::load_by::<M>(s, surface, core, declarations, work);
     let length = put_text(s, core, declarations, answer, text);
     Listed { answer, length }
 }
@@ -60,5 +70,5 @@ pub fn list(
 ) -> Listed
     ensures { Lists s.now (tables surface.old core.old declarations.old work.old) text.old result (tables surface.new core.new declarations.new work.new) text.new }
 {
-    list_by(s, surface, core, declarations, work, text, Method::Frames)
+    list_by::<Frames>(s, surface, core, declarations, work, text)
 }

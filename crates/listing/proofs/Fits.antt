@@ -14,15 +14,15 @@ use Rattle.terms.specs.Label.{Declaration}
 use Rattle.terms.specs.Resolution.{resolve_module}
 use Rattle.terms.specs.Rows.{pad, joined, core_rows, declaration_records}
 use Rattle.terms.proofs.Tables.{Wide}
-use Rattle.terms.proofs.Widths.{wide_core, wide_records, total, total_surface, total_core, count_records}
-use Rattle.surface.specs.Reader.{Position, start, Result, done, refused}
-use Rattle.surface.specs.Loading.{Lengths, Outcome, outcome, loading, load}
+use Rattle.terms.proofs.Widths.{wide_core, wide_records, total_surface, total_core, count_records}
+use Rattle.surface.specs.Reader.{start, Result, done, refused}
+use Rattle.surface.specs.Loading.{Lengths, outcome, loading, load}
 use Rattle.surface.proofs.Acceptance.{is_loaded, is_read}
 use Rattle.lines.proofs.Lengths.{level, sum, listing_short, refusal_short}
 use Rattle.lister.specs.Lists.{text_of, listing_text}
 use Rattle.listing.specs.Program.{lent, program_text, Written}
 use Rattle.listing.specs.Promises.{EveryTextFits}
-use Rattle.listing.proofs.Atoms.{term_bytes, name_bytes, atoms_inside}
+use Rattle.listing.proofs.Atoms.{atoms_inside}
 use Rattle.listing.proofs.Shown.{sum_of, sum_at, row_level, word_at, module_level, record_name, module_names}
 
 -- What a table shows is what its rows show.

@@ -3,12 +3,13 @@ use Rattle.std.proofs.Common.{◌≡◌, ◌∙◌, sym, ap, ℕ, ◌+◌, ◌-�
 use Rattle.std.proofs.Math.Seq.{take-add, take-append_seam, length-take-le, length-sets}
 use native.Mathlib.Decide.{dec_lt}
 use Rattle.std.proofs.lemmas.List.{take_all}
-use Rattle.std.specs.Io.KnownBytes.{Appends, Consumes}
+use Rattle.std.specs.Io.KnownBytes.{Appends, Consumes, Keeps}
 use Rattle.std.specs.declared.option.Option.{Option}
 use Rattle.std.specs.declared.option.Option.TheVariants.{None, Some}
 use Rattle.text.proofs.Writing.{behind_whole}
 use Rattle.listing.specs.Program.{program_text, Written, Answers}
-use Rattle.listing.specs.declared.standard.Input.{Input}
+use Rattle.std.specs.Prelude.{Result, Ok, Err, OnOk, is_ok}
+use Rattle.std.specs.Result.{MatchResult, IsErrAnd}
 use Rattle.listing.specs.Moved.{Fills}
 use Rattle.listing.proofs.Fits.{every_text_fits}
 
@@ -45,7 +46,7 @@ first l ys h f = elim (dec_lt (length l) 65536) [
   | no k ↦ ap (λ n. take n (l ++ ys)) (let z : 65536 ≡ length l = omega arith in z) ∙ take-append_seam l ys
 ]
 
-pub answered : (before after out out₁ : Option (List ℕ)) (buf : List ℕ) (n : ℕ) → length buf ≡ 65536 → n ≤ length buf → Fills before after buf (Input.Bytes n)
+pub answered : (before after out out₁ : Option (List ℕ)) (buf : List ℕ) (n : ℕ) → length buf ≡ 65536 → n ≤ length buf → Fills before after buf (Ok n)
     → Appends out out₁ (program_text (take n buf)) → Answers before out out₁
 answered None after out out₁ buf n e h p w = tt
 answered (Some xs) None out out₁ buf n e h p w = absurd p.0
@@ -53,3 +54,21 @@ answered (Some xs) (Some ys) out out₁ buf n e h p w =
     let k : length (take n buf) ≡ n = length-take-le n buf h in
     let read : take 65536 xs ≡ take n buf = ap (take 65536) p.0 ∙ first (take n buf) ys (omega arith) (λ l. p.1 (omega arith)) in
     subst (λ t. Appends out out₁ (program_text t)) (sym read) w
+
+-- Where only the error was turned into another.
+pub same_ok : {T E D : Type 0} (r : Result T E) (m : Result T D) (n : T) (Q : E → D → Type 0) → MatchResult r (λ x. m ≡ Ok x) (λ e. IsErrAnd m (Q e)) → m ≡ Ok n → r ≡ Ok n
+same_ok (Ok x) m n Q h e = cc
+same_ok (Err y) m n Q h e = absurd (rw e at h)
+
+pub on_ok : {T E D P Q : Type 0} (r : Result T E) (m : Result T D) → is_ok m ≡ is_ok r → OnOk r P → (P → Q) → OnOk m Q
+on_ok (Ok x) (Ok y) e p f = f p
+on_ok (Ok x) (Err y) e p f = tt
+on_ok (Err x) (Ok y) e p f = absurd cc
+on_ok (Err x) (Err y) e p f = tt
+
+-- A step that moved nothing.
+pub stays : (a b c : Option (List ℕ)) (d : ℕ) (before now : List ℕ) → Consumes a b (take d before) → take d now ≡ take d before → Keeps b c → Consumes a c (take d now)
+stays None b c d before now p k q = tt
+stays (Some xs) None c d before now p k q = absurd p
+stays (Some xs) (Some ys) None d before now p k q = absurd q
+stays (Some xs) (Some ys) (Some zs) d before now p k q = p ∙ ap (λ l. l ++ ys) (sym k) ∙ ap (λ l. take d now ++ l) (sym q)

@@ -13,7 +13,7 @@ use Rattle.terms.specs.Resolution.{Locals, Core, kept, var, global, unknown, cor
 use Rattle.terms.specs.Rows.{pad, row, span, core_words, core_row, core_rows, declaration_records, joined}
 use Rattle.terms.proofs.Arrow.{counts_same}
 use Rattle.terms.proofs.Tables.{getD_pad, Wide, joined_at}
-use Rattle.lines.proofs.Lengths.{level, sum}
+use Rattle.lines.proofs.Lengths.{sum}
 use Rattle.listing.proofs.Atoms.{label_bytes, term_bytes, name_bytes}
 
 -- The sum over rows, and the same by their places.

@@ -7,7 +7,7 @@ ghost use Rattle.std.specs.Prelude.{OnOk};
 ghost use Rattle.std.specs.Io.KnownBytes.{Appends};
 ghost use Rattle.listing.specs.Program.{Written, Answers, program_text};
 
-use standard::{Input, read_input, tell, write_output};
+use standard::{read_input, tell, write_output};
 use std::io;
 use std::io::{ErrorKind, Read, Write};
 use std::process::ExitCode;
@@ -53,13 +53,8 @@ fn answer<R: Read, W: Write>(input: &mut R, output: &mut W) -> Result<(), Failur
     ensures { OnOk result (Answers (R.remaining input.old) (W.contents output.old) (W.contents output.new)) }
 {
     let mut source = [0u8; 65536];
-    match read_input(input, &mut source) {
-        Input::Bytes(n) => match print_listing(output, &source[..n]) {
-            Ok(()) => Ok(()),
-            Err(error) => Err(Failure::Writing(error)),
-        },
-        Input::Failed(error) => Err(Failure::Reading(error)),
-    }
+    let n = read_input(input, &mut source).map_err(Failure::Reading)?;
+    print_listing(output, &source[..n]).map_err(Failure::Writing)
 }
 
 // A failure is told on standard error alone. Where nobody reads on, nothing is said: the status is that of a program which the signal

@@ -16,13 +16,6 @@ enum Transfer {
     Failed(io::Error),
 }
 
-// What was read: so many bytes, up to the end of the input or of the buffer; or the call that failed left no source.
-#[derive(Drop)]
-pub enum Input {
-    Bytes(usize),
-    Failed(io::Error),
-}
-
 fn read_from<R: Read>(input: &mut R, buf: &mut [u8], from: usize) -> Transfer
     requires { from ≤ length buf.old }
     ensures within { Within (length buf.new) result }
@@ -41,34 +34,28 @@ fn read_from<R: Read>(input: &mut R, buf: &mut [u8], from: usize) -> Transfer
     }
 }
 
-// A proved loop has to end, and nothing says that signals do: it counts its turns down, from a number that no run uses up.
-pub fn read_input<R: Read>(input: &mut R, buf: &mut [u8]) -> Input
+// How many bytes were read, up to the end of the input or of the buffer; or the call that failed left no source.
+// A proved loop has to end, and nothing says that signals do: it counts its turns, up to a number that no run reaches.
+pub fn read_input<R: Read>(input: &mut R, buf: &mut [u8]) -> io::Result<usize>
     ensures within { Read (length buf.new) result }
     ensures bytes { Fills (R.remaining input.old) (R.remaining input.new) buf.new result }
 {
     let mut done = 0;
-    let mut turns = u64::MAX;
-    while turns > 0 && done < buf.len() {
+    for _turn in 0..u64::MAX {
+        if done == buf.len() {
+            break;
+        }
         match read_from(input, buf, done) {
-            Transfer::To(end) => {
-                done = end;
-                turns -= 1;
-            }
-            Transfer::Nothing => {
-                return Input::Bytes(done);
-            }
-            Transfer::Interrupted => {
-                turns -= 1;
-            }
-            Transfer::Failed(error) => {
-                return Input::Failed(error);
-            }
+            Transfer::To(end) => done = end,
+            Transfer::Nothing => return Ok(done),
+            Transfer::Interrupted => {}
+            Transfer::Failed(error) => return Err(error),
         }
     }
     if done < buf.len() {
-        return Input::Failed(io::Error::from(ErrorKind::Interrupted));
+        return Err(io::Error::from(ErrorKind::Interrupted));
     }
-    Input::Bytes(done)
+    Ok(done)
 }
 
 // All of the text is written, or a call failed.

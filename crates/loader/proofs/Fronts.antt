@@ -14,7 +14,7 @@ use Rattle.surface.specs.Reader.{Position, start, done}
 use Rattle.surface.specs.Loading.{parsing}
 use Rattle.surface.proofs.Acceptance.{is_parsed}
 use Rattle.tables.specs.Tables.{with_words}
-use Rattle.reader.specs.declared.ModuleRead.{ModuleRead}
+use Rattle.reader.specs.Answers.{ModuleRead}
 use Rattle.reader.specs.Reads.{ReadsModule}
 use Rattle.elaborate.proofs.ResolvedTrees.{records_kept}
 use Rattle.loader.specs.Leaving.{lengths_of}

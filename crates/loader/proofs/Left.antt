@@ -1,13 +1,13 @@
 -- What loading leaves, from what it stores: the tables are cleared behind it.
-use mathlib.Core.Path.{◌≡◌, refl, sym, ap, ap₂, ◌∙◌}
+use mathlib.Core.Path.{◌≡◌, ap, ◌∙◌}
 use mathlib.Core.List.{List, []}
-use Prim.Native.Nat.{ℕ, ◌*◌, ◌/◌, ◌≤◌}
+use Prim.Native.Nat.{ℕ, ◌*◌, ◌≤◌}
 use native.Mathlib.Omega.{arith}
 use lib.ListN.{length, take}
 use Rattle.terms.specs.Label.{Declaration}
 use Rattle.terms.specs.Rows.{pad}
-use Rattle.surface.specs.declared.Answer.{Answer}
-use Rattle.surface.specs.Reader.{Position, start, Result, done, refused}
+use Rattle.surface.specs.Answer.{Answer}
+use Rattle.surface.specs.Reader.{start, Result, done, refused}
 use Rattle.surface.specs.Loading.{Outcome, outcome, loading, load}
 use Rattle.surface.specs.SameCore.{row_count, declaration_count}
 use Rattle.tables.specs.Tables.{cleared}

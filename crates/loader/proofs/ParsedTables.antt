@@ -1,17 +1,18 @@
 -- What parsing leaves, from what it stores: the tables are cleared behind it.
+use Rattle.surface.specs.SameCore.{row_count, declaration_count}
 use mathlib.Core.Path.{◌≡◌, refl, ap, ◌∙◌}
 use mathlib.Core.List.{List, []}
 use Prim.Native.Nat.{ℕ, ◌*◌, ◌/◌, ◌≤◌}
 use native.Mathlib.Omega.{arith}
 use lib.ListN.{length}
 use Rattle.terms.specs.Label.{Declaration}
-use Rattle.surface.specs.Reader.{Position, start, Result, done, refused}
+use Rattle.surface.specs.Reader.{start, Result, done, refused}
 use Rattle.surface.specs.Loading.{Lengths, parsing}
 use Rattle.tables.specs.Tables.{cleared}
-use Rattle.reader.specs.declared.ModuleRead.{ModuleRead}
+use Rattle.reader.specs.Answers.{ModuleRead}
 use Rattle.reader.specs.Reads.{ReadsModule}
 use Rattle.loader.specs.Leaving.{lengths_of}
-use Rattle.loader.specs.Parsed.{parsed, parse, parsing_leaves, rows_read, declarations_read}
+use Rattle.loader.specs.Parsed.{parsed, parse, parsing_leaves}
 use Rattle.loader.proofs.Left.{front, whole}
 use Rattle.loader.proofs.Fronts.{fronts}
 
@@ -24,30 +25,30 @@ module _ (s surface declarations work : List ℕ) (r : ModuleRead) (surface₁ d
   Read o = ReadsModule o surface declarations r surface₁ declarations₁
 
   -- There is room for what the answer counts.
-  pub counted : (rows_read r ≤ length surface / 8) × (declarations_read r ≤ length declarations / 5)
+  pub counted : (row_count r ≤ length surface / 8) × (declaration_count r ≤ length declarations / 5)
   counted = by (parsing s z start) refl h
     where
-      by : (o : Result (List Declaration)) → parsing s z start ≡ o → Read o → (rows_read r ≤ length surface / 8) × (declarations_read r ≤ length declarations / 5)
-      by (refused x) e w = (omega (arith, ap rows_read w), omega (arith, ap declarations_read w))
+      by : (o : Result (List Declaration)) → parsing s z start ≡ o → Read o → (row_count r ≤ length surface / 8) × (declaration_count r ≤ length declarations / 5)
+      by (refused x) e w = (omega (arith, ap row_count w), omega (arith, ap declaration_count w))
       by (done ds q) e w =
           let f = fronts s surface declarations work surface₁ declarations₁ r ds q e w in
-          (omega (arith, ap rows_read w.0, f.rows), omega (arith, ap declarations_read w.0, f.count))
+          (omega (arith, ap row_count w.0, f.rows), omega (arith, ap declaration_count w.0, f.count))
 
   module _ (a : length surface₁ ≡ length surface) (c : length declarations₁ ≡ length declarations) (d : length work₁ ≡ length work) where
-    pub left_by_parse : parsing_leaves r (cleared surface₁ (rows_read r * 8)) (cleared declarations₁ (declarations_read r * 5)) (cleared work₁ 0) ≡ parse s z
+    pub left_by_parse : parsing_leaves r (cleared surface₁ (row_count r * 8)) (cleared declarations₁ (declaration_count r * 5)) (cleared work₁ 0) ≡ parse s z
     unfolding parse
     left_by_parse = by (parsing s z start) refl h
       where
         by : (o : Result (List Declaration)) → parsing s z start ≡ o → Read o
-            → parsing_leaves r (cleared surface₁ (rows_read r * 8)) (cleared declarations₁ (declarations_read r * 5)) (cleared work₁ 0) ≡ parsed z o
+            → parsing_leaves r (cleared surface₁ (row_count r * 8)) (cleared declarations₁ (declaration_count r * 5)) (cleared work₁ 0) ≡ parsed z o
         by (refused x) e w =
-            let t = ap (λ (j : ℕ). cleared surface₁ (j * 8)) (ap rows_read w) ∙ whole surface₁ (length surface) a in
-            let v = ap (λ (j : ℕ). cleared declarations₁ (j * 5)) (ap declarations_read w) ∙ whole declarations₁ (length declarations) c in
+            let t = ap (λ (j : ℕ). cleared surface₁ (j * 8)) (ap row_count w) ∙ whole surface₁ (length surface) a in
+            let v = ap (λ (j : ℕ). cleared declarations₁ (j * 5)) (ap declaration_count w) ∙ whole declarations₁ (length declarations) c in
             let u = whole work₁ (length work) d in
             λ i. parsing_leaves (w i) (t i) (v i) (u i)
         by (done ds q) e w =
             let f = fronts s surface declarations work surface₁ declarations₁ r ds q e w in
-            let t = ap (λ (j : ℕ). cleared surface₁ (j * 8)) (ap rows_read w.0) ∙ front surface₁ (length surface) (q.rows * 8) _ a (omega (arith, f.rows)) f.surface_front in
-            let v = ap (λ (j : ℕ). cleared declarations₁ (j * 5)) (ap declarations_read w.0) ∙ front declarations₁ (length declarations) (length ds * 5) _ c (omega (arith, f.count)) f.list_front in
+            let t = ap (λ (j : ℕ). cleared surface₁ (j * 8)) (ap row_count w.0) ∙ front surface₁ (length surface) (q.rows * 8) _ a (omega (arith, f.rows)) f.surface_front in
+            let v = ap (λ (j : ℕ). cleared declarations₁ (j * 5)) (ap declaration_count w.0) ∙ front declarations₁ (length declarations) (length ds * 5) _ c (omega (arith, f.count)) f.list_front in
             let u = whole work₁ (length work) d in
             λ i. parsing_leaves (w.0 i) (t i) (v i) (u i)

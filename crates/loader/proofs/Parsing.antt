@@ -1,4 +1,6 @@
 -- Parsing and loading, test by test.
+use Rattle.std.specs.Prelude.{Err}
+use Rattle.token.specs.declared.Class.{Class}
 use mathlib.Core.Path.{◌≡◌, refl, sym, ap, subst}
 use mathlib.Core.Bool.{true, false, not}
 use mathlib.Core.List.{List, []}
@@ -15,27 +17,27 @@ use Rattle.surface.specs.Reading.{read_module}
 use Rattle.surface.specs.Loading.{Lengths, frame_limit, parsing, reading, accept, loading}
 use Rattle.surface.proofs.Takes.{require_go, require_stops}
 use Rattle.reader.specs.Reads.{ReadsModule}
-use Rattle.reader.specs.declared.ModuleRead.{ModuleRead}
+use Rattle.reader.specs.Answers.{ModuleRead}
 
 module _ (s : List ℕ) (z : Lengths) where
-  pub parse_area : z.work < 16384 → parsing s z start ≡ refused (nowhere 11)
+  pub parse_area : z.work < 16384 → parsing s z start ≡ refused (nowhere Class.WorkShort)
   unfolding parsing
   parse_area h = require_stops _ _ _ _ (lt-leb 16384 z.work h)
 
   module _ (area : 16384 ≤ z.work) where
-    pub parse_long : 65535 < length s → parsing s z start ≡ refused (nowhere 6)
+    pub parse_long : 65535 < length s → parsing s z start ≡ refused (nowhere Class.LongSource)
     unfolding parsing
     parse_long h = require_go _ _ _ _ _ (le-leb 16384 z.work area) (require_stops _ _ _ _ (lt-leb (length s) 65535 h))
 
     module _ (short : length s ≤ 65535) where
-      pub parse_broken : (valid_length s ≡ length s → ⊥) → parsing s z start ≡ refused (at_offset 1 (valid_length s))
+      pub parse_broken : (valid_length s ≡ length s → ⊥) → parsing s z start ≡ refused (at_offset Class.Malformed (valid_length s))
       unfolding parsing
       parse_broken h =
           require_go _ _ _ _ _ (le-leb 16384 z.work area)
           (require_go _ _ _ _ _ (le-leb (length s) 65535 short) (require_stops _ _ _ _ (ne_eqb (valid_length s) (length s) h)))
 
       module _ (valid : valid_length s ≡ length s) where
-        pub parse_marked : byte_order_mark s ≡ true → parsing s z start ≡ refused (at_offset 1 0)
+        pub parse_marked : byte_order_mark s ≡ true → parsing s z start ≡ refused (at_offset Class.Malformed 0)
         unfolding parsing
         parse_marked h =
             require_go _ _ _ _ _ (le-leb 16384 z.work area)
@@ -56,7 +58,7 @@ module _ (s : List ℕ) (z : Lengths) where
   load_refused r e = rw (e, after)
 
   module _ (ds : List Declaration) (q : Position) (e : parsing s z start ≡ done ds q) where
-    pub load_short : z.core / 8 < q.rows → loading s z start ≡ refused (nowhere 10)
+    pub load_short : z.core / 8 < q.rows → loading s z start ≡ refused (nowhere Class.CoreShort)
     unfolding loading reading
     load_short h = rw (e, lt-leb q.rows (z.core / 8) h)
 
@@ -67,7 +69,7 @@ module _ (s : List ℕ) (z : Lengths) where
 
 -- The answer of a reader that refuses, and of one that gives what another gives.
 module _ (o : Result (List Declaration)) (table list : List ℕ) (r : ModuleRead) (table₁ list₁ : List ℕ) where
-  pub stops : (x : Refusal) → o ≡ refused x → r ≡ ModuleRead.Refused x → ReadsModule o table list r table₁ list₁
+  pub stops : (x : Refusal) → o ≡ refused x → r ≡ Err x → ReadsModule o table list r table₁ list₁
   stops x e f = subst (λ (y : Result (List Declaration)). ReadsModule y table list r table₁ list₁) (sym e) f
 
   pub same_reads : (y : Result (List Declaration)) → o ≡ y → ReadsModule y table list r table₁ list₁ → ReadsModule o table list r table₁ list₁

@@ -1,4 +1,7 @@
 -- From what parsing and resolution store to what loading stores.
+use Rattle.surface.specs.SameCore.{row_count, declaration_count}
+use Rattle.token.specs.declared.Class.{Class}
+use Rattle.std.specs.Prelude.{Err}
 use mathlib.Core.Path.{◌≡◌, refl, sym, ap, subst, ◌∙◌}
 use mathlib.Core.List.{List, []}
 use mathlib.Core.Option.{Option, none, some}
@@ -10,11 +13,11 @@ use Rattle.token.specs.declared.Refusal.{Refusal}
 use Rattle.terms.specs.Label.{Declaration}
 use Rattle.terms.specs.Resolution.{RefusedName, first_refused}
 use Rattle.terms.specs.Rows.{joined, surface_rows}
-use Rattle.surface.specs.declared.Answer.{Answer}
+use Rattle.surface.specs.Answer.{Answer, loaded}
 use Rattle.surface.specs.Reader.{Position, start, Result, done, refused, nowhere}
 use Rattle.surface.specs.Loading.{Lengths, parsing, loading}
 use Rattle.surface.proofs.Acceptance.{IsParsed, is_parsed}
-use Rattle.reader.specs.declared.ModuleRead.{ModuleRead}
+use Rattle.reader.specs.Answers.{ModuleRead}
 use Rattle.reader.specs.Reads.{ReadsModule}
 use Rattle.elaborate.specs.Loadable.{Loadable}
 use Rattle.loader.specs.Leaving.{lengths_of}
@@ -33,7 +36,7 @@ module _ (s surface core declarations work : List ℕ) where
   unfolding parsing
   any_core = refl
 
-  none_counted : (x : Refusal) → Counts (Answer.Refused x) surface core declarations
+  none_counted : (x : Refusal) → Counts (Err x) surface core declarations
   none_counted x = record { rows_read = omega arith; rows_resolved = omega arith; records = omega arith }
 
   module _ (surface₁ declarations₁ : List ℕ) (r : ModuleRead)
@@ -44,18 +47,18 @@ module _ (s surface core declarations work : List ℕ) where
     read_so : (o : Result (List Declaration)) → parsing s z start ≡ o → Read o
     read_so o e = subst Read (any_core ∙ e) h
 
-    pub refused_stores : (x : Refusal) (core₁ : List ℕ) → r ≡ ModuleRead.Refused x
-        → Stores s (loading s z start) (Answer.Refused x) surface₁ core₁ declarations₁ × Counts (Answer.Refused x) surface core declarations
+    pub refused_stores : (x : Refusal) (core₁ : List ℕ) → r ≡ Err x
+        → Stores s (loading s z start) (Err x) surface₁ core₁ declarations₁ × Counts (Err x) surface core declarations
     refused_stores x core₁ e = (by (parsing s z start) refl, none_counted x)
       where
-        by : (o : Result (List Declaration)) → parsing s z start ≡ o → Stores s (loading s z start) (Answer.Refused x) surface₁ core₁ declarations₁
+        by : (o : Result (List Declaration)) → parsing s z start ≡ o → Stores s (loading s z start) (Err x) surface₁ core₁ declarations₁
         by (done ds q) f = absurd (let y : ◌≡◌ {A = ℕ} 0 1 = cc (read_so (done ds q) f).0 in omega arith)
         by (refused y) f =
             let g : x ≡ y = cc (read_so (refused y) f) in
-            subst (λ (o : Result (List Declaration)). Stores s o (Answer.Refused x) surface₁ core₁ declarations₁) (sym (load_refused s z y f)) (ap Answer.Refused g)
+            subst (λ (o : Result (List Declaration)). Stores s o (Err x) surface₁ core₁ declarations₁) (sym (load_refused s z y f)) (ap Err g)
 
     -- What was read is what resolution is given.
-    module _ (work₁ : List ℕ) (kept : length work₁ ≡ length work) (rows count : ℕ) (e : r ≡ ModuleRead.Done rows count) where
+    module _ (work₁ : List ℕ) (kept : length work₁ ≡ length work) (rows count : ℕ) (e : r ≡ loaded rows count) where
       module _ (ds : List Declaration) (q : Position) (f : parsing s z start ≡ done ds q) where
         p : IsParsed s z ds q
         p = is_parsed s z ds q f
@@ -67,10 +70,10 @@ module _ (s surface core declarations work : List ℕ) where
         g = fronts s surface declarations work surface₁ declarations₁ r ds q (any_core ∙ f) w
 
         rows_are : rows ≡ q.rows
-        rows_are = cc w.0
+        rows_are = ap row_count (sym e ∙ w.0)
 
         count_is : count ≡ length ds
-        count_is = cc w.0
+        count_is = ap declaration_count (sym e ∙ w.0)
 
         surface_front : take (rows * 8) surface₁ ≡ joined (surface_rows 0 ds)
         surface_front = ap (λ (n : ℕ). take (n * 8) surface₁) rows_are ∙ g.surface_front
@@ -90,7 +93,7 @@ module _ (s surface core declarations work : List ℕ) where
           abbrev Stored : Type 0
           Stored = Stores s (loading s z start) a surface₁ core₁ declarations₁ × Counts a surface core declarations
 
-          as_refused : (x : Refusal) → loading s z start ≡ refused x → a ≡ Answer.Refused x → Stored
+          as_refused : (x : Refusal) → loading s z start ≡ refused x → a ≡ Err x → Stored
           as_refused x g b = (
             subst (λ (o : Result (List Declaration)). Stores s o a surface₁ core₁ declarations₁) (sym g) b,
             subst (λ (y : Answer). Counts y surface core declarations) (sym b) (none_counted x),
@@ -105,7 +108,7 @@ module _ (s surface core declarations work : List ℕ) where
           as_names : rows ≤ length core / 8 → (o : Option RefusedName) → first_refused s [] ds ≡ o → ResolvesTo o s ds rows a core₁ → Stored
           as_names room (some x) m b = as_refused (nowhere x.class) (load_names s z ds q f (core_room room) (some x) m) b
           as_names room none m b =
-              let c : a ≡ Answer.Loaded q.rows (length ds) = b.0 ∙ ap (λ (n : ℕ). Answer.Loaded n (length ds)) rows_are in (
+              let c : a ≡ loaded q.rows (length ds) = b.0 ∙ ap (λ (n : ℕ). loaded n (length ds)) rows_are in (
                 subst (λ (o : Result (List Declaration)). Stores s o a surface₁ core₁ declarations₁) (sym (load_names s z ds q f (core_room room) none m)) (
                   c,
                   g.surface_front,
@@ -119,7 +122,7 @@ module _ (s surface core declarations work : List ℕ) where
           stored : Stored
           stored = elim (dec_le rows (length core / 8)) [
             | yes room ↦ as_names room (first_refused s [] ds) refl (v.long room)
-            | no full ↦ as_refused (nowhere 10) (load_short s z ds q f (core_full (omega arith))) (v.short (omega arith))
+            | no full ↦ as_refused (nowhere Class.CoreShort) (load_short s z ds q f (core_full (omega arith))) (v.short (omega arith))
           ]
 
       pub resolved_stores : (a : Answer) (core₁ : List ℕ)

@@ -3,10 +3,10 @@ use mathlib.Core.Path.{◌≡◌, sym, ◌∙◌, subst}
 use mathlib.Core.List.{List, [], ◌∷◌, map}
 use mathlib.Core.Logic.{if_pos, if_neg, by_cases}
 use mathlib.Core.Option.{Option, none, some}
-use Prim.Native.Nat.{ℕ, zero, suc, ◌≤◌, max}
+use Prim.Native.Nat.{ℕ, zero, suc, ◌≤◌}
 use native.Mathlib.Omega.{arith}
 use native.Mathlib.Decide.{ℕ_discrete}
-use Rattle.terms.specs.Tree.{Forest, nil, node, Tree, count, relabel, tree}
+use Rattle.terms.specs.Tree.{Forest, nil, node, Tree, count, relabel}
 use Rattle.terms.specs.Label.{Label, Declaration, Terms, trees, named, named_declaration}
 use Rattle.terms.proofs.Cells.{count_relabel}
 use Rattle.terms.proofs.NamedModule.{has, parts, ShapedModule}
@@ -14,7 +14,7 @@ use Rattle.terms.proofs.NamedModule as by_name
 use Rattle.terms.proofs.Spans.{named_trees}
 use Rattle.surface.specs.Grammar.{Derives}
 use Rattle.surface.proofs.Shaped.{shaped}
-use Rattle.surface.proofs.Frames.{opens, frames_of, deepest}
+use Rattle.surface.proofs.Frames.{frames_of, deepest}
 use Rattle.elaborate.specs.Loadable.{Shaped, Nested, Bodied, WellRead}
 
 -- By the bytes of its names or by their spans, a forest has the same shape.

@@ -1,6 +1,6 @@
 -- What a call of `load` is lent and leaves, by the words of each table.
 use Rattle.std.specs.Prelude.{List, ℕ}
-use Rattle.surface.specs.declared.Answer.{Answer}
+use Rattle.surface.specs.Answer.{Answer}
 use Rattle.surface.specs.Tables.{Lengths, tables, lengths, leaves}
 use Rattle.surface.specs.Loading.{Outcome}
 

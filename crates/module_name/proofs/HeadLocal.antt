@@ -1,4 +1,5 @@
 -- The tokens of a head depend on the bytes up to its end only.
+use Rattle.std.specs.Prelude.{Ok}
 use mathlib.Core.Path.{◌≡◌, refl, sym, ap, ◌∙◌, subst}
 use mathlib.Core.List.{List, [], ◌∷◌}
 use Prim.Native.Nat.{ℕ, ◌-◌, ◌≤◌, ◌<◌}
@@ -7,7 +8,6 @@ use lib.ListN.{length, get_or}
 use Rattle.token.specs.Token.{next_token}
 use Rattle.token.specs.declared.TokenKind.{TokenKind}
 use Rattle.token.specs.declared.Token.{Token}
-use Rattle.token.specs.declared.Lexed.TheVariants.{Got}
 use Rattle.token.proofs.Bounds.{Within, Span, bounds}
 use Rattle.token.proofs.Local.{Agree, Reach, part_same, token_local}
 use Rattle.token.proofs.Parentheses.{close_here}
@@ -30,7 +30,7 @@ Ends [] = Unit {0}
 Ends (t ∷ []) = Closes t
 Ends (t ∷ u ∷ ts) = Ends (u ∷ ts)
 
-token_span : (s : List ℕ) (at : ℕ) (t : Token) → next_token s at ≡ Got t → ¬ (t.kind ≡ TokenKind.Eof) → Span at t.start t.end (length s)
+token_span : (s : List ℕ) (at : ℕ) (t : Token) → next_token s at ≡ Ok t → ¬ (t.kind ≡ TokenKind.Eof) → Span at t.start t.end (length s)
 token_span s at t e g = span_of t.kind at t.start t.end (length s) (subst (Within at (length s)) e (bounds s at)) g
 
 run_ahead : (s : List ℕ) {at e : ℕ} {ts : List Token} → Run (next_token s) at ts e → at ≤ e
@@ -85,14 +85,14 @@ pub record Closed (s : List ℕ) (x : Token) (e : ℕ) : Type 0 where
   pub named : x.start < x.end
   pub behind : x.end ≤ e
   pub parenthesis : Token
-  pub next : next_token s x.end ≡ Got parenthesis
+  pub next : next_token s x.end ≡ Ok parenthesis
   pub closes : Closes parenthesis
   pub last : parenthesis.end ≡ e
   pub within : e ≤ length s
   pub some : 0 < e
   pub byte : get_or s (e - 1) 0 ≡ 41
 
-closed_by : (s : List ℕ) (x d : Token) (e : ℕ) → x.start < x.end → next_token s x.end ≡ Got d → Closes d → ¬ (d.kind ≡ TokenKind.Eof) → d.end ≡ e → Closed s x e
+closed_by : (s : List ℕ) (x d : Token) (e : ℕ) → x.start < x.end → next_token s x.end ≡ Ok d → Closes d → ¬ (d.kind ≡ TokenKind.Eof) → d.end ≡ e → Closed s x e
 closed_by s x d e m n c g l =
     let b = close_here s x.end d n c in
     let w = token_span s x.end d n g in

@@ -1,18 +1,20 @@
 -- The shortest beginning that is accepted is a good head, and the other way round.
+use Rattle.std.specs.Prelude.{Err}
 use mathlib.Core.Path.{◌≡◌, sym, ap, ◌∙◌, subst}
 use mathlib.Core.Logic.{inl, inr}
 use mathlib.Core.List.{List, []}
 use Prim.Native.Nat.{ℕ, ◌-◌}
 use native.Mathlib.Omega.{arith}
 use lib.ListN.{take}
+use Rattle.std.specs.Prelude.{Ok, Err}
 use Rattle.token.specs.declared.Token.{Token}
-use Rattle.surface.specs.declared.Answer.{Answer}
 use Rattle.surface.specs.Reader.{start}
 use Rattle.surface.specs.Reading.{Head}
 use Rattle.surface.proofs.Steps.{done_inj}
 use Rattle.surface.proofs.CompleteModule.{head_reads, head_goes}
-use Rattle.module_name.specs.declared.ModuleName.TheVariants.{Named, Refused}
 use Rattle.surface.specs.Tables.{ample}
+use Rattle.module_name.specs.declared.Span.{Span}
+use Rattle.module_name.specs.Answer.{ModuleName, named_at}
 use Rattle.module_name.specs.ModuleName.{module_name}
 use Rattle.module_name.specs.Statements.{NoBeginning, WholeRefused, Shortest, NameIn, NameOfShortest, RefusalOfWhole}
 use Rattle.module_name.proofs.Good.{Good, good_head, good_closed, good_unique, good_itself, good_derives, good_would, accepted_good}
@@ -50,37 +52,40 @@ good_name_in s h n g =
       long = ap (λ (t : Token). t.end - t.start) (sym d.1);
     }
 
+ok_inj : {m n : Span} → ◌≡◌ {A = ModuleName} (Ok m) (Ok n) → m ≡ n
+ok_inj e = cc
+
 pub name_of_shortest : NameOfShortest
 name_of_shortest s a l = (forth (good_or_none s), back)
   where
-    forth : GoodOrNone s → module_name s ≡ Named a l → (n : ℕ) × Shortest s n × NameIn (take n s) a l
+    forth : GoodOrNone s → module_name s ≡ named_at a l → (n : ℕ) × Shortest s n × NameIn (take n s) a l
     forth (inl (h, n, g)) e =
-        let f = sym (good_names s h n g) ∙ e in
-        let x : h.name.start ≡ a = cc in
-        let y : h.name.end - h.name.start ≡ l = cc in
+        let f = ok_inj (sym (good_names s h n g) ∙ e) in
+        let x : h.name.start ≡ a = ap (λ (n : Span). n.start) f in
+        let y : h.name.end - h.name.start ≡ l = ap (λ (n : Span). n.length) f in
         (n, good_shortest s h n g, subst (NameIn (take n s) a) y (subst (λ (b : ℕ). NameIn (take n s) b (h.name.end - h.name.start)) x (good_name_in s h n g)))
     forth (inr f) e = let w = sym (none_refused s f).answers ∙ e in absurd (let z : ◌≡◌ {A = ℕ} 0 1 = cc in omega arith)
 
-    back : (n : ℕ) × Shortest s n × NameIn (take n s) a l → module_name s ≡ Named a l
+    back : (n : ℕ) × Shortest s n × NameIn (take n s) a l → module_name s ≡ named_at a l
     back (n, k, i) =
         let g = shortest_good s n k in
         let e = derived_name s g.0 n g.1 a l i in
-        good_names s g.0 n g.1 ∙ (λ j. Named (sym e.0 j) (sym e.1 j))
+        good_names s g.0 n g.1 ∙ (λ j. named_at (sym e.0 j) (sym e.1 j))
 
 pub refusal_of_whole : RefusalOfWhole
 refusal_of_whole s r = (forth (good_or_none s), back)
   where
-    forth : GoodOrNone s → module_name s ≡ Refused r → NoBeginning s × WholeRefused s r
+    forth : GoodOrNone s → module_name s ≡ Err r → NoBeginning s × WholeRefused s r
     forth (inl (h, n, g)) e = let f = sym (good_names s h n g) ∙ e in absurd (let z : ◌≡◌ {A = ℕ} 0 1 = cc in omega arith)
     forth (inr f) e =
         let c = none_heading s f in
         let i = sym (none_names s c.0 f c.1) ∙ e in
         let j : c.0 ≡ r = cc in
-        (f, λ z w. heading_answers s z c.0 w c.1 ∙ ap Answer.Refused j)
+        (f, λ z w. heading_answers s z c.0 w c.1 ∙ ap Err j)
 
-    back : NoBeginning s × WholeRefused s r → module_name s ≡ Refused r
+    back : NoBeginning s × WholeRefused s r → module_name s ≡ Err r
     back (f, g) =
         let c = none_heading s f in
         let i = sym (heading_answers s (ample s 16384) c.0 (omega arith) c.1) ∙ g (ample s 16384) (omega arith) in
         let j : c.0 ≡ r = cc in
-        none_names s c.0 f c.1 ∙ ap Refused j
+        none_names s c.0 f c.1 ∙ ap Err j

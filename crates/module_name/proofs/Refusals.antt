@@ -1,4 +1,6 @@
 -- The refusal where there is no good head: that of the whole source, which is 1, 2, 3 or 6.
+use Rattle.token.specs.declared.Class.{Class}
+use Rattle.std.specs.Prelude.{Err, Ok}
 use mathlib.Core.Path.{◌≡◌, refl, sym, ap, ◌∙◌, subst}
 use mathlib.Core.Logic.{◌⊎◌, inl, inr}
 use mathlib.Core.List.{List}
@@ -9,15 +11,14 @@ use native.Mathlib.Omega.{arith}
 use lib.Dec.{leb, eqb}
 use lib.ListN.{length, take}
 use borrow.Author.Tests.{leb-true, le-leb, lt-leb, eqb-true, eq-eqb, not-true}
-use Rattle.token.specs.Token.{next_token}
+use Rattle.token.specs.Token.{next_token, Lexed}
+use Rattle.std.specs.Prelude.{Err}
 use Rattle.token.specs.declared.Refusal.{Refusal}
-use Rattle.token.specs.declared.Lexed.{Lexed}
 use Rattle.token.proofs.Outcomes.{every_token}
 use Rattle.words.specs.Words.{ascii, same_bytes, identifier, numeral}
 use Rattle.utf8.specs.Utf8.{valid_length, byte_order_mark}
 use Rattle.terms.specs.Forms.{Edition}
 use Rattle.terms.specs.Label.{Declaration}
-use Rattle.surface.specs.declared.Answer.{Answer}
 use Rattle.surface.specs.Text.{text, is_open, is_close, is_atom}
 use Rattle.surface.specs.Reader.{Position, start, Result, done, refused, Reader, after, ◌>>◌, require, nowhere, at_offset}
 use Rattle.surface.specs.Reading.{lexed, token, opening, closing, atom, word, natural, name, edition_of, supported, surface_line, module_line, Head, head, read_module}
@@ -27,7 +28,6 @@ use Rattle.surface.proofs.Takes.{require_go, require_stops}
 use Rattle.surface.proofs.Editions.{version_meets}
 use Rattle.surface.proofs.SoundModule.{edition_is, supported_done}
 use Rattle.surface.proofs.Acceptance.{whole_valid}
-use Rattle.module_name.specs.declared.ModuleName.TheVariants.{Refused}
 use Rattle.surface.specs.Tables.{ample}
 use Rattle.module_name.specs.ModuleName.{module_name}
 use Rattle.module_name.specs.Statements.{NoBeginning, head_refusal}
@@ -37,12 +37,12 @@ use Rattle.module_name.proofs.Search.{none_refused}
 -- The tests of a whole source and its head, as loading makes them.
 unfoldable pub heading : List ℕ → Reader Head
 heading s = do
-  require (leb (length s) 65535) (nowhere 6)
-  require (eqb (valid_length s) (length s)) (at_offset 1 (valid_length s))
-  require (not (byte_order_mark s)) (at_offset 1 0)
+  require (leb (length s) 65535) (nowhere Class.LongSource)
+  require (eqb (valid_length s) (length s)) (at_offset Class.Malformed (valid_length s))
+  require (not (byte_order_mark s)) (at_offset Class.Malformed 0)
   head s
 
-pub long_heading : (s : List ℕ) → 65535 < length s → heading s start ≡ refused (nowhere 6)
+pub long_heading : (s : List ℕ) → 65535 < length s → heading s start ≡ refused (nowhere Class.LongSource)
 unfolding heading
 long_heading s h = require_stops (leb (length s) 65535) _ _ _ (lt-leb (length s) 65535 h)
 
@@ -81,7 +81,7 @@ heading_loads s z r w e =
     (follow (eqb (valid_length s) (length s)) _ r _ _
     (follow (not (byte_order_mark s)) _ r _ _ (λ f. after_refused (head s start) _ r f))) e)))
 
-pub heading_answers : (s : List ℕ) (z : Lengths) (r : Refusal) → 16384 ≤ z.work → heading s start ≡ refused r → (load s z).answer ≡ Answer.Refused r
+pub heading_answers : (s : List ℕ) (z : Lengths) (r : Refusal) → 16384 ≤ z.work → heading s start ≡ refused r → (load s z).answer ≡ Err r
 unfolding load
 heading_answers s z r w e = ap (λ (x : Result (List Declaration)). (outcome s z x).answer) (heading_loads s z r w e)
 
@@ -93,12 +93,12 @@ none_heading s f = go (heading s start) refl
     go (done h p) e = absurd (none_good s f h p.offset (heading_good s h p e))
     go (refused r) e = (r, e)
 
-pub none_names : (s : List ℕ) (r : Refusal) → NoBeginning s → heading s start ≡ refused r → module_name s ≡ Refused r
+pub none_names : (s : List ℕ) (r : Refusal) → NoBeginning s → heading s start ≡ refused r → module_name s ≡ Err r
 none_names s r f e =
     let w = none_refused s f in
     let l = sym w.loads ∙ heading_loads s (ample s 16384) r (omega arith) e in
     let i : w.refusal ≡ r = cc in
-    w.answers ∙ ap Refused i
+    w.answers ∙ ap Err i
 
 -- A source has a good head, or none of its beginnings is accepted.
 abbrev pub GoodOrNone : List ℕ → Type 0
@@ -135,16 +135,16 @@ test true r p k h f = f
 test false r p k h f = h
 
 abbrev Lexes : Lexed → Type 0
-Lexes (Lexed.Got t) = Unit {0}
-Lexes (Lexed.Refused r) = head_refusal r.class ≡ true
+Lexes (Ok t) = Unit {0}
+Lexes (Err r) = head_refusal r.class ≡ true
 
 next_lexes : (s : List ℕ) (at : ℕ) → Lexes (next_token s at)
 next_lexes = every_token Lexes (λ a e. tt) (λ a e. tt) (λ a e. tt) (λ a e. tt) (λ p. refl)
 
 module _ (next : ℕ → Lexed) (lexes : (at : ℕ) → Lexes (next at)) where
   lexed_only : (n : ℕ) (x : Lexed) → Lexes x → Only (lexed n x)
-  lexed_only n (Lexed.Got t) h = tt
-  lexed_only n (Lexed.Refused r) h = h
+  lexed_only n (Ok t) h = tt
+  lexed_only n (Err r) h = h
 
   token_only : (p : Position) → Only (token next p)
   unfolding token

@@ -1,4 +1,7 @@
 -- A proof of each statement of specs/Statements.
+use Rattle.surface.specs.SameCore.{row_count, declaration_count}
+use Rattle.token.specs.declared.Class.{Class}
+use Rattle.std.specs.Prelude.{Err}
 use mathlib.Core.Path.{◌≡◌, refl, sym, ap, ◌∙◌, subst}
 use mathlib.Core.Logic.{inl, inr}
 use mathlib.Core.Bool.{Bool, true, false}
@@ -9,16 +12,18 @@ use lib.Dec.{leb}
 use lib.ListN.{length, take, length-take}
 use lib.Seq.{take_all, take-take, length-take-le}
 use borrow.Author.Tests.{leb-true, leb-false}
+use Rattle.std.specs.Prelude.{Ok, Err}
 use Rattle.token.specs.Token.{next_token}
 use Rattle.token.specs.declared.Token.{Token}
 use Rattle.token.specs.declared.Refusal.{Refusal}
-use Rattle.surface.specs.declared.Answer.{Answer}
+use Rattle.surface.specs.Answer.{loaded}
 use Rattle.surface.specs.Reader.{Position, start, done, nowhere}
+use Rattle.surface.specs.SameCore.{row_count, declaration_count}
 use Rattle.surface.specs.Reading.{Head, head}
 use Rattle.surface.proofs.CompleteModule.{head_reads, head_goes}
 use Rattle.surface.proofs.Accepted.{accepts_exactly}
 use Rattle.surface.proofs.Reports.{report_tells}
-use Rattle.module_name.specs.declared.ModuleName.TheVariants.{Named, Refused}
+use Rattle.module_name.specs.Answer.{named_at}
 use Rattle.module_name.specs.ModuleName.{module_name}
 use Rattle.module_name.specs.Statements.{NameOfShortest, RefusalOfWhole, EndsThere, NothingBehind, OnlyThese, NameAsLoaded, NameOfBeginning, FirstBytes, NameTells, AmpleIsEnough, head_refusal}
 use Rattle.module_name.proofs.Good.{good_closed, good_elsewhere, good_longer, good_derives, clean_good}
@@ -35,17 +40,17 @@ refusal_of_whole = meaning.refusal_of_whole
 
 -- Two numbers of a name are told as loading's two counts are.
 pub name_tells : NameTells
-name_tells (Named a n) (Named b m) e =
-    let f = report_tells (Answer.Loaded a n) (Answer.Loaded b m) e in
-    let i : a ≡ b = cc in
-    let j : n ≡ m = cc in
-    λ k. Named (i k) (j k)
-name_tells (Named a n) (Refused r) e = absurd (let f = report_tells (Answer.Loaded a n) (Answer.Refused r) e in let z : ◌≡◌ {A = ℕ} 0 1 = cc in omega arith)
-name_tells (Refused r) (Named a n) e = absurd (let f = report_tells (Answer.Refused r) (Answer.Loaded a n) e in let z : ◌≡◌ {A = ℕ} 0 1 = cc in omega arith)
-name_tells (Refused r) (Refused q) e =
-    let f = report_tells (Answer.Refused r) (Answer.Refused q) e in
+name_tells (Ok m) (Ok n) e =
+    let f = report_tells (loaded m.start m.length) (loaded n.start n.length) e in
+    let i : m.start ≡ n.start = ap row_count f in
+    let j : m.length ≡ n.length = ap declaration_count f in
+    λ k. named_at (i k) (j k)
+name_tells (Ok n) (Err r) e = absurd (let f = report_tells (loaded n.start n.length) (Err r) e in let z : ◌≡◌ {A = ℕ} 0 1 = cc in omega arith)
+name_tells (Err r) (Ok n) e = absurd (let f = report_tells (Err r) (loaded n.start n.length) e in let z : ◌≡◌ {A = ℕ} 0 1 = cc in omega arith)
+name_tells (Err r) (Err q) e =
+    let f = report_tells (Err r) (Err q) e in
     let i : r ≡ q = cc in
-    ap Refused i
+    ap Err i
 
 pub ample_is_enough : AmpleIsEnough
 ample_is_enough = ample.ample_is_enough
@@ -99,7 +104,7 @@ name_as_loaded s z a =
 pub name_of_beginning : NameOfBeginning
 name_of_beginning s n a l e = go (good_or_none (take n s))
   where
-    go : GoodOrNone (take n s) → module_name s ≡ Named a l
+    go : GoodOrNone (take n s) → module_name s ≡ named_at a l
     go (inl (h, m, g)) = good_names s h m (good_longer s n h m g).1 ∙ sym (good_names (take n s) h m g) ∙ e
     go (inr f) = let w = sym (none_refused (take n s) f).answers ∙ e in absurd (let z : ◌≡◌ {A = ℕ} 0 1 = cc in omega arith)
 
@@ -111,7 +116,7 @@ first_bytes s n h = by_length (leb (length s) n) refl
     beyond l (inr f) =
         let k : length (take n s) ≡ n = length-take-le n s (omega arith) in
         let none = none_by s (λ x m g. none_good (take n s) f x m (good_elsewhere s (take n s) x m g (omega (arith, g.short, k)) (sym (take-take m n s (omega (arith, g.short)))))) in
-        none_names (take n s) (nowhere 6) f (long_heading (take n s) (omega arith)) ∙ sym (none_names s (nowhere 6) none (long_heading s (omega arith)))
+        none_names (take n s) (nowhere Class.LongSource) f (long_heading (take n s) (omega arith)) ∙ sym (none_names s (nowhere Class.LongSource) none (long_heading s (omega arith)))
 
     by_length : (b : Bool) → leb (length s) n ≡ b → module_name (take n s) ≡ module_name s
     by_length true e = ap module_name (take_all n s (leb-true (length s) n e))

@@ -1,10 +1,10 @@
 -- Statements about the answer of `head`, each as a type; module_name/proofs/Statements.antt has a proof of each.
-use Rattle.std.specs.Prelude.{◌≡◌, ◌↔◌, List, [], Bool, true, ◌||◌, ℕ, ◌-◌, ◌≤◌, eqb, length, take, get_or}
+use Rattle.token.specs.Refusals.{number}
+use Rattle.token.specs.declared.Class.{Class}
+use Rattle.std.specs.Prelude.{◌≡◌, ◌↔◌, List, [], Bool, true, ◌||◌, ℕ, ◌-◌, ◌≤◌, eqb, length, take, get_or, Err, Ok}
 use Rattle.token.specs.Token.{next_token}
 use Rattle.token.specs.declared.Token.{Token}
 use Rattle.token.specs.declared.Refusal.{Refusal}
-use Rattle.token.specs.declared.Lexed.TheVariants.{Got}
-use Rattle.surface.specs.declared.Answer.{Answer}
 use Rattle.surface.specs.Grammar.{Derives, Closes}
 use Rattle.terms.specs.Label.{Declaration}
 use Rattle.surface.specs.Reader.{Position, start, done}
@@ -12,8 +12,7 @@ use Rattle.surface.specs.Reading.{Head, head}
 use Rattle.surface.specs.Tables.{Lengths, ample}
 use Rattle.surface.specs.SameCore.{Accepts}
 use Rattle.surface.specs.Loading.{load}
-use Rattle.module_name.specs.declared.ModuleName.{ModuleName}
-use Rattle.module_name.specs.declared.ModuleName.TheVariants.{Named, Refused}
+use Rattle.module_name.specs.Answer.{ModuleName, named_at}
 use Rattle.module_name.specs.ModuleName.{module_name, report_module_name}
 
 -- "would be accepted by itself, given enough storage": there are table lengths with which loading accepts it.
@@ -35,7 +34,7 @@ pub record NameIn (s : List ℕ) (start length : ℕ) : Type 0 where
 
 -- "gives the name in the shortest beginning of the source that would be accepted by itself"
 abbrev pub NameOfShortest : Type 0
-NameOfShortest = (s : List ℕ) (a l : ℕ) → (module_name s ≡ Named a l) ↔ ((n : ℕ) × Shortest s n × NameIn (take n s) a l)
+NameOfShortest = (s : List ℕ) (a l : ℕ) → (module_name s ≡ named_at a l) ↔ ((n : ℕ) × Shortest s n × NameIn (take n s) a l)
 
 -- "If no such beginning exists, the answer is the refusal of the whole source", with whatever tables and a work area: 11 is about a table that
 -- `head` is not lent.
@@ -43,10 +42,10 @@ abbrev pub NoBeginning : List ℕ → Type 0
 NoBeginning s = (m : ℕ) → WouldBeAccepted (take m s) → ⊥
 
 abbrev pub WholeRefused : List ℕ → Refusal → Type 0
-WholeRefused s r = (z : Lengths) → 16384 ≤ z.work → (load s z).answer ≡ Answer.Refused r
+WholeRefused s r = (z : Lengths) → 16384 ≤ z.work → (load s z).answer ≡ Err r
 
 abbrev pub RefusalOfWhole : Type 0
-RefusalOfWhole = (s : List ℕ) (r : Refusal) → (module_name s ≡ Refused r) ↔ (NoBeginning s × WholeRefused s r)
+RefusalOfWhole = (s : List ℕ) (r : Refusal) → (module_name s ≡ Err r) ↔ (NoBeginning s × WholeRefused s r)
 
 -- "that beginning ends at the module line's parenthesis": the token behind the name closes, and ends there.
 pub record EndsAtParenthesis (s : List ℕ) (n : ℕ) : Type 0 where
@@ -54,7 +53,7 @@ pub record EndsAtParenthesis (s : List ℕ) (n : ℕ) : Type 0 where
   pub derives : Derives (take n s) declarations
   pub none : declarations ≡ []
   pub parenthesis : Token
-  pub next : next_token s derives.name.end ≡ Got parenthesis
+  pub next : next_token s derives.name.end ≡ Ok parenthesis
   pub closes : Closes parenthesis
   pub last : parenthesis.end ≡ n
   pub byte : get_or s (n - 1) 0 ≡ 41
@@ -67,21 +66,21 @@ abbrev pub NothingBehind : Type 0
 NothingBehind = (s r : List ℕ) (n : ℕ) → Shortest s n → take n r ≡ take n s → module_name r ≡ module_name s
 
 -- "only 1, 2, 3 and 6 occur"
-abbrev pub head_refusal : ℕ → Bool
-head_refusal c = eqb c 1 || (eqb c 2 || (eqb c 3 || eqb c 6))
+abbrev pub head_refusal : Class → Bool
+head_refusal k = let c : ℕ = number k in eqb c 1 || (eqb c 2 || (eqb c 3 || eqb c 6))
 
 abbrev pub OnlyThese : Type 0
-OnlyThese = (s : List ℕ) (r : Refusal) → module_name s ≡ Refused r → head_refusal r.class ≡ true
+OnlyThese = (s : List ℕ) (r : Refusal) → module_name s ≡ Err r → head_refusal r.class ≡ true
 
 -- "For every file that loads, the name equals the one that loading reads": the `Head.name` with which reading begins.
 abbrev pub NameAsLoaded : Type 0
 NameAsLoaded =
     (s : List ℕ) (z : Lengths) → Accepts (load s z)
-    → (h : Head) × (p : Position) × (head s start ≡ done h p) × (module_name s ≡ Named h.name.start (h.name.end - h.name.start))
+    → (h : Head) × (p : Position) × (head s start ≡ done h p) × (module_name s ≡ named_at h.name.start (h.name.end - h.name.start))
 
 -- A name that a beginning gives is the source's, so a program may ask with what it has read of a file.
 abbrev pub NameOfBeginning : Type 0
-NameOfBeginning = (s : List ℕ) (n a l : ℕ) → module_name (take n s) ≡ Named a l → module_name s ≡ Named a l
+NameOfBeginning = (s : List ℕ) (n a l : ℕ) → module_name (take n s) ≡ named_at a l → module_name s ≡ named_at a l
 
 -- 65,536 bytes are enough to ask with, for a refusal too.
 abbrev pub FirstBytes : Type 0

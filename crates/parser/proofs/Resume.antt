@@ -1,4 +1,5 @@
 -- Reading into rows, step by step: what a term begins with, one more argument, the closing parenthesis.
+use Rattle.token.specs.declared.Class.{Class}
 use mathlib.Core.Path.{◌≡◌, refl, ◌∙◌, ap}
 use mathlib.Core.List.{List, [], ◌∷◌, ◌++◌}
 use mathlib.Core.Bool.{Bool}
@@ -31,7 +32,7 @@ module _ (beginning : Reader Beginning) (close : Reader Token) (limit : ℕ) (ho
     unfolding store_row
     store_yes h = rw (lt-ltb p.rows limit h, store_row)
 
-    pub store_no : limit ≤ p.rows → store_row beginning close limit holds l children p w ≡ refused (nowhere 8)
+    pub store_no : limit ≤ p.rows → store_row beginning close limit holds l children p w ≡ refused (nowhere Class.SurfaceFull)
     unfolding store_row
     store_no h = rw (le-ltb p.rows limit h, store_row)
 
@@ -46,7 +47,7 @@ module _ (beginning : Reader Beginning) (close : Reader Token) (limit : ℕ) (ho
     term_leaf zero l e = rw (e, term_rows)
     term_leaf (suc f) l e = rw (e, term_rows)
 
-    pub term_deep : (l : Label) (n : ℕ) → beginning p ≡ Result.done (frame l n) q → term_rows beginning close limit holds 0 p w ≡ refused (nowhere 7)
+    pub term_deep : (l : Label) (n : ℕ) → beginning p ≡ Result.done (frame l n) q → term_rows beginning close limit holds 0 p w ≡ refused (nowhere Class.Frames)
     unfolding term_rows begin_row
     term_deep l n e = rw (e, term_rows)
 

@@ -1,4 +1,6 @@
 -- One step of the frame reader, said of a state and the tables.
+use Rattle.token.specs.declared.Class.{Class}
+use Rattle.std.specs.Prelude.{Some, None, Ok, Err}
 use mathlib.Core.Path.{◌≡◌, refl, sym, ◌∙◌, ap, subst}
 use mathlib.Core.List.{List, [], ◌∷◌, ◌++◌}
 use mathlib.Core.Bool.{Bool, true, false}
@@ -20,19 +22,18 @@ use Rattle.frames.specs.Frames.{OpenFrame, frame_at, open_frames}
 use Rattle.expects.specs.Expects.{position_at}
 use Rattle.term_rows.proofs.Readers.{Arities}
 use Rattle.parser.specs.TermRows.{RowResult, done, refused, store_row, close_row, term_rows, after_term, resume}
-use Rattle.parser.specs.Machine.{Setting, pending, outcome, weight, one_if, Waiting, TermInside, Went, TermStepped, pushed_term}
+use Rattle.parser.specs.Machine.{Setting, TermStep, pending, outcome, weight, one_if, Waiting, TermInside, Went, TermStepped, pushed_term}
 use Rattle.term_rows.specs.TermRows.{pushed_row}
 use Rattle.parser.specs.declared.State.{State}
-use Rattle.parser.specs.declared.TermStep.{TermStep}
 use Rattle.parser.proofs.Resume.{resume_refused, store_yes, store_no, term_refused, term_leaf, term_deep, term_frame, after_more, after_last}
 
 module _ (limit : ℕ) (table : List ℕ) (n at d h : ℕ) (row : List ℕ) where
   pub pushed_yes : n < limit
-      → (TermStep.Go (record { at = at; rows = n + 1; depth = d; deepest = h; value = n; have = true }) ≡ pushed_term limit n at d h) × (stored_at 8 table n row ≡ pushed_row limit table n row)
+      → (Ok (record { at = at; rows = n + 1; depth = d; deepest = h; value = Some n }) ≡ pushed_term limit n at d h) × (stored_at 8 table n row ≡ pushed_row limit table n row)
   unfolding pushed_term pushed_row
   pushed_yes k = let e = lt-ltb n limit k in (rw (e, pushed_term), rw (e, pushed_row))
 
-  pub pushed_no : limit ≤ n → (TermStep.Refused (nowhere 8) ≡ pushed_term limit n at d h) × (table ≡ pushed_row limit table n row)
+  pub pushed_no : limit ≤ n → (Err (nowhere Class.SurfaceFull) ≡ pushed_term limit n at d h) × (table ≡ pushed_row limit table n row)
   unfolding pushed_term pushed_row
   pushed_no k = let e = le-ltb n limit k in (rw (e, pushed_term), rw (e, pushed_row))
 
@@ -74,13 +75,13 @@ module _ (s : List ℕ) (m : Setting) (table work : List ℕ) (st : State) where
     next_table = stored_at 8 table st.rows row
 
     abbrev next_state : State
-    next_state = record { at = e; rows = st.rows + 1; depth = d; deepest = st.deepest; value = st.rows; have = true }
+    next_state = record { at = e; rows = st.rows + 1; depth = d; deepest = st.deepest; value = Some st.rows }
 
-    full : limit ≤ st.rows → outcome m table work st ≡ refused (nowhere 8)
+    full : limit ≤ st.rows → outcome m table work st ≡ refused (nowhere Class.SurfaceFull)
     full h =
         same
         ∙ ap (resumed area d) (store_no begin close limit holds l children (position_at e st.rows) table h)
-        ∙ resume_refused begin close limit holds (m.frames - d) (open_frames area d) (nowhere 8)
+        ∙ resume_refused begin close limit holds (m.frames - d) (open_frames area d) (nowhere Class.SurfaceFull)
 
     stored : st.rows < limit → outcome m table work st ≡ outcome m next_table area next_state
     unfolding outcome pending
@@ -116,7 +117,7 @@ module _ (s : List ℕ) (m : Setting) (table work : List ℕ) (st : State) where
   -- A step to a state that is to read a term for its last frame.
   waits_went : (frs : List OpenFrame) (e d h : ℕ) (area : List ℕ) → outcome m table work st ≡ waits frs e d → open_frames area d ≡ frs
       → TermInside m.frames s work st → st.at ≤ e → e ≤ length s → d ≤ h → h ≤ m.frames → length area ≡ length work → Waiting frs → 2 * (length s - e) < weight s st
-      → Went s m table work st (record { at = e; rows = st.rows; depth = d; deepest = h; value = 0; have = false }) table area
+      → Went s m table work st (record { at = e; rows = st.rows; depth = d; deepest = h; value = None }) table area
   unfolding outcome pending
   waits_went frs e d h area same q i a b f g k w less = record {
     same = same ∙ ap (λ (x : List OpenFrame). waits x e d) (sym q);
@@ -125,7 +126,7 @@ module _ (s : List ℕ) (m : Setting) (table work : List ℕ) (st : State) where
   }
 
   -- A term is to be read.
-  module _ (have : st.have ≡ false) where
+  module _ (have : st.value ≡ None) where
     reads : outcome m table work st
         ≡ resumed work st.depth (term_rows begin close limit holds (m.frames - st.depth) here table)
     unfolding outcome pending
@@ -143,14 +144,14 @@ module _ (s : List ℕ) (m : Setting) (table work : List ℕ) (st : State) where
         ∙ ap (resumed work st.depth) (term_leaf begin close limit holds here (position_at e st.rows) table (m.frames - st.depth) l q)
 
     pub too_deep : (l : Label) (n : ℕ) (e : ℕ) → begin here ≡ Result.done (frame l n) (position_at e st.rows) → m.frames ≤ st.depth
-        → outcome m table work st ≡ refused (nowhere 7)
+        → outcome m table work st ≡ refused (nowhere Class.Frames)
     too_deep l n e q h =
         let z : m.frames - st.depth ≡ 0 = omega arith in
         reads
         ∙ ap (resumed work st.depth)
         (ap (λ (f : ℕ). term_rows begin close limit holds f here table) z
         ∙ term_deep begin close limit holds here (position_at e st.rows) table l n q)
-        ∙ resume_refused begin close limit holds (m.frames - st.depth) (open_frames work st.depth) (nowhere 7)
+        ∙ resume_refused begin close limit holds (m.frames - st.depth) (open_frames work st.depth) (nowhere Class.Frames)
 
     module _ (arities : Arities begin) (l : Label) (n e : ℕ)
         (begun : begin here ≡ Result.done (frame l n) (position_at e st.rows)) (h : st.depth < m.frames) where
@@ -166,27 +167,27 @@ module _ (s : List ℕ) (m : Setting) (table work : List ℕ) (st : State) where
 
       pub open_went : (i : TermInside m.frames s work st) (top : ℕ) (area : List ℕ) → top ≡ max st.deepest (st.depth + 1) → st.at < e → e ≤ length s → length area ≡ length work
           → open_frames area (st.depth + 1) ≡ record { label = l; children = [] } ∷ open_frames work st.depth
-          → Went s m table work st (record { at = e; rows = st.rows; depth = st.depth + 1; deepest = top; value = 0; have = false }) table area
+          → Went s m table work st (record { at = e; rows = st.rows; depth = st.depth + 1; deepest = top; value = None }) table area
       open_went i top area u a b k q =
           let z = arities here (position_at e st.rows) l n begun in
           waits_went (record { label = l; children = [] } ∷ open_frames work st.depth) e (st.depth + 1) top area opened_same q i (omega arith) b (omega arith) (omega (arith, i.deepest)) k
           (omega arith, i.waiting) (omega arith)
 
   -- A term is complete and the frame d, which is the last, takes it.
-  module _ (d : ℕ) (have : st.have ≡ true) (deep : st.depth ≡ suc d) (i : TermInside m.frames s work st) (area : List ℕ)
-      (pushed : open_frames area (suc d) ≡ record { label = (frame_at work d).label; children = (frame_at work d).children ++ (st.value ∷ []) } ∷ open_frames work d) where
+  module _ (d v : ℕ) (have : st.value ≡ Some v) (deep : st.depth ≡ suc d) (i : TermInside m.frames s work st) (area : List ℕ)
+      (pushed : open_frames area (suc d) ≡ record { label = (frame_at work d).label; children = (frame_at work d).children ++ (v ∷ []) } ∷ open_frames work d) where
     abbrev f : ℕ
     f = m.frames - suc d
 
     taken : outcome m table work st
         ≡ resume begin close limit holds (suc f) (open_frames work d)
-        (after_term begin close limit holds (term_rows begin close limit holds f) (frame_at work d) (done st.value here table))
+        (after_term begin close limit holds (term_rows begin close limit holds f) (frame_at work d) (done v here table))
     unfolding outcome pending resume open_frames
     taken = rw (have, deep, outcome, pending, resume, open_frames)
 
     -- The frame with the term as one more argument.
     abbrev fr : OpenFrame
-    fr = record { label = (frame_at work d).label; children = (frame_at work d).children ++ (st.value ∷ []) }
+    fr = record { label = (frame_at work d).label; children = (frame_at work d).children ++ (v ∷ []) }
 
     the_frame : frame_at area d ≡ fr
     unfolding open_frames
@@ -203,17 +204,17 @@ module _ (s : List ℕ) (m : Setting) (table work : List ℕ) (st : State) where
     others_wait = subst Waiting (sym the_others) waited.1
 
     pub more_went : length (frame_at area d).children < arity_of (frame_at area d).label.kind → length area ≡ length work
-        → Went s m table work st (record { at = st.at; rows = st.rows; depth = st.depth; deepest = st.deepest; value = 0; have = false }) table area
+        → Went s m table work st (record { at = st.at; rows = st.rows; depth = st.depth; deepest = st.deepest; value = None }) table area
     unfolding resume
     more_went h k =
         let g : length fr.children < arity_of fr.label.kind = subst (λ (x : OpenFrame). length x.children < arity_of x.label.kind) the_frame h in
-        let z : one_if st.have ≡ 1 = ap one_if have in
-        subst (λ (x : ℕ). Went s m table work st (record { at = st.at; rows = st.rows; depth = x; deepest = st.deepest; value = 0; have = false }) table area) (sym deep)
+        let z : one_if st.value ≡ 1 = ap one_if have in
+        subst (λ (x : ℕ). Went s m table work st (record { at = st.at; rows = st.rows; depth = x; deepest = st.deepest; value = None }) table area) (sym deep)
         (waits_went (fr ∷ open_frames work d) st.at (suc d) st.deepest area
         (taken
         ∙ ap (resume begin close limit holds (suc f) (open_frames work d))
-        (after_more begin close limit holds (term_rows begin close limit holds f) (frame_at work d) st.value here table
-        (omega (arith, length-append (frame_at work d).children (st.value ∷ [])))))
+        (after_more begin close limit holds (term_rows begin close limit holds f) (frame_at work d) v here table
+        (omega (arith, length-append (frame_at work d).children (v ∷ [])))))
         pushed i (omega arith) i.at (omega (arith, i.depth)) i.deepest k (g, waited.1) (omega arith))
 
     module _ (h : arity_of (frame_at area d).label.kind ≤ length (frame_at area d).children) where
@@ -224,8 +225,8 @@ module _ (s : List ℕ) (m : Setting) (table work : List ℕ) (st : State) where
           let z : suc f ≡ m.frames - d = omega arith in
           taken
           ∙ ap (resume begin close limit holds (suc f) (open_frames work d))
-          (after_last begin close limit holds (term_rows begin close limit holds f) (frame_at work d) st.value here table
-          (omega (arith, waited.0, length-append (frame_at work d).children (st.value ∷ []))))
+          (after_last begin close limit holds (term_rows begin close limit holds f) (frame_at work d) v here table
+          (omega (arith, waited.0, length-append (frame_at work d).children (v ∷ []))))
           ∙ (λ j. resume begin close limit holds (z j) (sym the_others j)
           (close_row begin close limit holds (sym the_frame j).label (sym the_frame j).children table (close here)))
 

@@ -2,16 +2,12 @@
 use mathlib.Core.Path.{◌≡◌, refl, sym, ◌∙◌, ap, ap₂, subst}
 use mathlib.Core.List.{List, [], ◌∷◌, ◌++◌, append_assoc, append-nil}
 use mathlib.Core.Bool.{Bool, true, false}
-use Prim.Native.Nat.{ℕ, zero, suc, ◌+◌}
-use native.Mathlib.Omega.{arith}
+use Prim.Native.Nat.{ℕ, zero, suc}
 use lib.Dec.{ltb}
-use lib.ListN.{length}
 use Rattle.token.specs.declared.Token.{Token}
 use Rattle.terms.specs.Label.{Label}
 use Rattle.terms.specs.Tree.{Forest, nil, Tree, tree, Cell, next, roots, cells}
-use Rattle.terms.specs.Rows.{row_holding}
 use Rattle.terms.proofs.Cells.{next_cells}
-use Rattle.rows.specs.Places.{stored_at}
 use Rattle.surface.specs.Reader.{Position, Result, Reader, after}
 use Rattle.surface.specs.Reading.{Beginning, leaf, frame, store, finish, several, term}
 use Rattle.parser.specs.TermRows.{RowResult, done, refused, store_row, close_row, rest_rows, begin_row, term_rows, as_rows}

@@ -1,5 +1,6 @@
 -- Terms read straight into a table of rows: the reading order of `surface`, with each completed term stored as a row of words. The contracts
 -- of the frame reader's steps cite it; the law in proofs/ says that it stores the rows of the tree that the reading order gives.
+use Rattle.token.specs.declared.Class.{Class}
 use Rattle.std.specs.Prelude.{List, [], ◌∷◌, ◌++◌, Bool, true, false, ℕ, zero, suc, ◌-◌, ltb, length}
 use Rattle.token.specs.declared.Token.{Token}
 use Rattle.token.specs.declared.Refusal.{Refusal}
@@ -26,7 +27,7 @@ module _ (beginning : Reader Beginning) (close : Reader Token) (limit : ℕ) (ho
   store_row l children p w =
       elim (ltb p.rows limit) [
         | true ↦ done p.rows (record { offset = p.offset; rows = suc p.rows }) (stored_at 8 w p.rows (row_holding holds (record { label = l; children = children })))
-        | false ↦ refused (nowhere 8)
+        | false ↦ refused (nowhere Class.SurfaceFull)
       ]
 
   unfoldable pub close_row : Label → List ℕ → List ℕ → Result Token → RowResult
@@ -46,7 +47,7 @@ module _ (beginning : Reader Beginning) (close : Reader Token) (limit : ℕ) (ho
 
   -- A term, where so many frames may still be opened.
   unfoldable pub term_rows : ℕ → Position → List ℕ → RowResult
-  term_rows zero p w = begin_row (λ l n q v. refused (nowhere 7)) w (beginning p)
+  term_rows zero p w = begin_row (λ l n q v. refused (nowhere Class.Frames)) w (beginning p)
   term_rows (suc f) p w = begin_row (λ l n q v. rest_rows (term_rows f) n l [] q v) w (beginning p)
 
   -- An open form after one more argument was read.

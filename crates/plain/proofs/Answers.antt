@@ -1,10 +1,13 @@
 -- What the answers of the plain reader's parts come to: a term by what it begins with, and a form argument by argument.
-use mathlib.Core.Path.{◌≡◌, refl, sym, ◌∙◌, ap, ap₂, subst, transport}
+use Rattle.std.specs.Prelude.{Ok, Err}
+use Rattle.expects.specs.declared.TermStart.{TermStart}
+use Rattle.expects.specs.Answers.{Begun}
+use Rattle.token.specs.declared.Class.{Class}
+use mathlib.Core.Path.{◌≡◌, refl, sym, ◌∙◌, ap, subst, transport}
 use mathlib.Core.List.{List, [], ◌∷◌, ◌++◌}
 use mathlib.Core.Bool.{Bool}
 use Prim.Native.Nat.{ℕ, zero, suc, ◌+◌, ◌-◌, ◌≤◌, ◌<◌, max}
 use native.Mathlib.Omega.{arith}
-use native.Mathlib.Nat.{sub-zero}
 use native.Mathlib.Numerals.{add-one}
 use lib.ListN.{length, take, set, length-set}
 use lib.Seq.{take-suc-set}
@@ -14,19 +17,26 @@ use Rattle.terms.specs.Label.{Label}
 use Rattle.terms.specs.Tree.{Forest, nil, Tree, tree, next as next_row, cells}
 use Rattle.terms.specs.Rows.{row_holding}
 use Rattle.surface.specs.Reader.{Position, Result, done, refused, Reader, after, refuse, nowhere}
-use Rattle.surface.specs.Reading.{Beginning, leaf, frame, finish, several, term}
+use Rattle.surface.specs.Reading.{Beginning, finish, several, term}
 use Rattle.surface.specs.Sizes.{frames_of}
 use Rattle.expects.specs.declared.Format.{Format}
-use Rattle.expects.specs.declared.Begun.{Begun}
 use Rattle.expects.specs.Formats.{edition}
 use Rattle.expects.specs.Expects.{position_at, begun, Begins}
-use Rattle.term_rows.specs.declared.TermRead.{TermRead}
-use Rattle.term_rows.specs.TermRows.{stored_rows, pushed_row, Reads, TermBounds}
+use Rattle.term_rows.specs.declared.ReadTerm.{ReadTerm}
+use Rattle.term_rows.specs.TermRows.{TermRead, read_term, stored_rows, pushed_row, Reads, TermBounds}
 use Rattle.term_rows.proofs.Growth.{term_grown}
 use Rattle.term_rows.proofs.Depth.{term_needs}
 use Rattle.term_rows.proofs.Readers.{format_sound}
 use Rattle.plain.specs.Plain.{begin, close, form_end, a_term, arguments, a_form, form_rest, stored_term, ReadsRest}
 use Rattle.plain.proofs.Forms.{leaf_stored, argument_read, form_read}
+
+-- The term of an answer that has one.
+abbrev term_of : ReadTerm → TermRead → ReadTerm
+term_of d (Ok a) = a
+term_of d (Err x) = d
+
+same_term : (a b : ReadTerm) → ◌≡◌ {A = TermRead} (Ok a) (Ok b) → a ≡ b
+same_term a b e = ap (term_of a) e
 
 module _ (format : Format) (s : List ℕ) (limit : ℕ) where
   abbrev spans : ℕ → Bool
@@ -34,7 +44,7 @@ module _ (format : Format) (s : List ℕ) (limit : ℕ) where
 
   -- The arguments of a form, where so many frames may still be opened in front of it.
   abbrev within_form : ℕ → ℕ → Reader (Forest Label)
-  within_form zero = λ m. refuse (nowhere 7)
+  within_form zero = λ m. refuse (nowhere Class.Frames)
   within_form (suc f) = arguments format s limit f
 
   term_by : (f : ℕ) (p : Position) → a_term format s limit f p ≡ after (begin format s p) (finish (begin format s) (close format s) limit (within_form f))
@@ -56,20 +66,20 @@ module _ (format : Format) (s : List ℕ) (limit : ℕ) where
     read_on : (y : Begun) → x ≡ y → a_term format s limit left (position_at at n) ≡ after (begun n y) (finish (begin format s) (close format s) limit (within_form left))
     read_on y e = term_by left (position_at at n) ∙ ap (λ (z : Result Beginning). after z (finish (begin format s) (close format s) limit (within_form left))) (begun_at y e)
 
-    pub begin_refused : (y : Refusal) (table₁ : List ℕ) → x ≡ Begun.Refused y → Answer (TermRead.Refused y) table₁
+    pub begin_refused : (y : Refusal) (table₁ : List ℕ) → x ≡ Err y → Answer (Err y) table₁
     begin_refused y table₁ e = comes_to _ _ table₁ (read_on _ e) refl
 
-    pub leaf_read : (l : Label) (next : ℕ) (r : TermRead) (table₁ : List ℕ) → x ≡ Begun.Leaf l next → r ≡ stored_term limit n next 0
+    pub leaf_read : (l : Label) (next : ℕ) (r : TermRead) (table₁ : List ℕ) → x ≡ Ok (TermStart.Leaf l next) → r ≡ stored_term limit n next 0
         → table₁ ≡ pushed_row limit table n (row_holding spans (record { label = l; children = [] })) → Answer r table₁
     unfolding finish
     leaf_read l next r table₁ e q u = comes_to _ r table₁ (read_on _ e) (leaf_stored format s limit left l n table r table₁ next q u)
 
-    module _ (l : Label) (next : ℕ) (e : x ≡ Begun.Frame l next) where
-      pub too_deep : (r : Refusal) (table₁ : List ℕ) → left ≡ 0 → r ≡ nowhere 7 → Answer (TermRead.Refused r) table₁
+    module _ (l : Label) (next : ℕ) (e : x ≡ Ok (TermStart.Frame l next)) where
+      pub too_deep : (r : Refusal) (table₁ : List ℕ) → left ≡ 0 → r ≡ nowhere Class.Frames → Answer (Err r) table₁
       unfolding finish
       too_deep r table₁ z q =
-          let c : after (begun n (Begun.Frame l next)) (finish (begin format s) (close format s) limit (within_form left)) ≡ refused (nowhere 7) = rw z in
-          comes_to _ _ table₁ (read_on _ e ∙ c) (ap TermRead.Refused q)
+          let c : after (begun n (Ok (TermStart.Frame l next))) (finish (begin format s) (close format s) limit (within_form left)) ≡ refused (nowhere Class.Frames) = rw z in
+          comes_to _ _ table₁ (read_on _ e ∙ c) (ap Err q)
 
       -- The arguments may be read: they stand behind the beginning, and are at least one.
       pub opened_past : at < next
@@ -85,8 +95,8 @@ module _ (format : Format) (s : List ℕ) (limit : ℕ) where
       unfolding finish
       frame_read r table₁ h a =
           let z : left ≡ suc (left - 1) = omega arith in
-          let c : after (begun n (Begun.Frame l next)) (finish (begin format s) (close format s) limit (within_form left)) ≡ a_form format s limit (left - 1) l (position_at next n) =
-          ap (λ (f : ℕ). after (begun n (Begun.Frame l next)) (finish (begin format s) (close format s) limit (within_form f))) z in
+          let c : after (begun n (Ok (TermStart.Frame l next))) (finish (begin format s) (close format s) limit (within_form left)) ≡ a_form format s limit (left - 1) l (position_at next n) =
+          ap (λ (f : ℕ). after (begun n (Ok (TermStart.Frame l next))) (finish (begin format s) (close format s) limit (within_form f))) z in
           comes_to _ r table₁ (read_on _ e ∙ c) a
 
   -- A term that was read behind n rows: its tree, and where reading goes on.
@@ -98,11 +108,19 @@ module _ (format : Format) (s : List ℕ) (limit : ℕ) where
     rows_are : table₁ ≡ stored_rows spans n table (cells n (tree tree_is nil))
 
   module _ (n : ℕ) (table : List ℕ) (r : TermRead) (table₁ : List ℕ) where
-    term_done : (o : Result (Tree Label)) (row n₁ at frames : ℕ) → r ≡ TermRead.Done row n₁ at frames → Reads spans n table o r table₁ → TermDone o n table row n₁ at frames table₁
-    term_done (done t q) row n₁ at frames e h = record { tree_is = t; read = ap₂ (λ (i k : ℕ). done t (position_at i k)) (cc h.0) (cc h.0); row_is = cc h.0; frames_are = cc h.0; rows_are = h.1 }
+    term_done : (o : Result (Tree Label)) (row n₁ at frames : ℕ) → r ≡ Ok (read_term row n₁ at frames) → Reads spans n table o r table₁ → TermDone o n table row n₁ at frames table₁
+    term_done (done t q) row n₁ at frames e h =
+        let w = same_term _ _ (sym e ∙ h.0) in
+        record {
+          tree_is = t;
+          read = ap (λ (a : ReadTerm). done t (position_at a.next a.rows)) (sym w);
+          row_is = ap (λ (a : ReadTerm). a.row) w;
+          frames_are = ap (λ (a : ReadTerm). a.frames) w;
+          rows_are = h.1;
+        }
     term_done (refused x) row n₁ at frames e h = absurd (let z : ◌≡◌ {A = ℕ} 0 1 = cc in omega arith)
 
-    term_stopped : (o : Result (Tree Label)) (x : Refusal) → r ≡ TermRead.Refused x → Reads spans n table o r table₁ → o ≡ refused x
+    term_stopped : (o : Result (Tree Label)) (x : Refusal) → r ≡ Err x → Reads spans n table o r table₁ → o ≡ refused x
     term_stopped (done t q) x e h = absurd (let z : ◌≡◌ {A = ℕ} 0 1 = cc h.0 in omega arith)
     term_stopped (refused y) x e h = ap refused (cc)
 
@@ -121,49 +139,40 @@ module _ (format : Format) (s : List ℕ) (limit : ℕ) where
       pub goes : (r : TermRead) (table₂ : List ℕ)
           → ReadsRest spans limit l (take len args) frames stored table (form_rest format s limit left (arity - len) (position_at from stored)) r table₂ → All r table₂
 
-    pub first_argument : TermBounds s at n → Arguments table₀ (0 ∷ 0 ∷ 0 ∷ 0 ∷ 0 ∷ 0 ∷ []) 0 at n 0
-    first_argument b = record {
-      bounds = b;
-      low = omega arith;
-      few = omega arith;
-      six = refl;
-      shallow = omega arith;
-      kept = refl;
-      goes = λ r table₂ f. subst (λ (m : ℕ). ReadsRest spans limit l [] 0 n table₀ (form_rest format s limit left m (position_at at n)) r table₂) (sub-zero arity) f;
-    }
-
     module _ (table args : List ℕ) (len from stored frames : ℕ) (i : Arguments table args len from stored frames) where
       -- No argument is missing.
       pub all_read : (r : TermRead) (table₂ : List ℕ) → arity ≤ len → arity ≡ arity_of l.kind → 1 ≤ arity_of l.kind
-          → ReadsRest spans limit l (take len args) frames stored table (form_end format s (position_at from stored)) r table₂
+          → ReadsRest spans limit l (take arity args) frames stored table (form_end format s (position_at from stored)) r table₂
           → Reads spans n table₀ (a_form format s limit left l (position_at at n)) r table₂
       unfolding several
       all_read r table₂ h e k f =
           let z : arity - len ≡ 0 = omega arith in
+          let y : arity ≡ len = omega (arith, i.few) in
+          let g = subst (λ (m : ℕ). ReadsRest spans limit l (take m args) frames stored table (form_end format s (position_at from stored)) r table₂) y f in
           form_read format s limit left l n table₀ r table₂ at k
           (subst (λ (m : ℕ). ReadsRest spans limit l [] 0 n table₀ (form_rest format s limit left m (position_at at n)) r table₂) e
-          (i.goes r table₂ (subst (λ (m : ℕ). ReadsRest spans limit l (take len args) frames stored table (form_rest format s limit left m (position_at from stored)) r table₂) (sym z) f)))
+          (i.goes r table₂ (subst (λ (m : ℕ). ReadsRest spans limit l (take len args) frames stored table (form_rest format s limit left m (position_at from stored)) r table₂) (sym z) g)))
 
       -- One that is missing was read, or refused.
       module _ (h : len < arity) (argument : TermRead) (table₁ : List ℕ) (a : Reads spans stored table (a_term format s limit left (position_at from stored)) argument table₁) where
         left_over : arity - len ≡ suc (arity - (len + 1))
         left_over = omega arith
 
-        refused_there : (x : Refusal) → argument ≡ TermRead.Refused x → form_rest format s limit left (arity - len) (position_at from stored) ≡ refused x
+        refused_there : (x : Refusal) → argument ≡ Err x → form_rest format s limit left (arity - len) (position_at from stored) ≡ refused x
         unfolding several
         refused_there x e =
             let o = term_stopped stored table argument table₁ (a_term format s limit left (position_at from stored)) x e a in
             ap (λ (m : ℕ). form_rest format s limit left m (position_at from stored)) left_over ∙ rw (o, several)
 
-        pub one_refused : (x : Refusal) → argument ≡ TermRead.Refused x → arity ≡ arity_of l.kind → 1 ≤ arity_of l.kind
-            → Reads spans n table₀ (a_form format s limit left l (position_at at n)) (TermRead.Refused x) table₁
+        pub one_refused : (x : Refusal) → argument ≡ Err x → arity ≡ arity_of l.kind → 1 ≤ arity_of l.kind
+            → Reads spans n table₀ (a_form format s limit left l (position_at at n)) (Err x) table₁
         one_refused x e k m =
-            form_read format s limit left l n table₀ (TermRead.Refused x) table₁ at m
-            (subst (λ (j : ℕ). ReadsRest spans limit l [] 0 n table₀ (form_rest format s limit left j (position_at at n)) (TermRead.Refused x) table₁) k
-            (i.goes (TermRead.Refused x) table₁
-            (subst (λ (o : Result (Forest Label)). ReadsRest spans limit l (take len args) frames stored table o (TermRead.Refused x) table₁) (sym (refused_there x e)) refl)))
+            form_read format s limit left l n table₀ (Err x) table₁ at m
+            (subst (λ (j : ℕ). ReadsRest spans limit l [] 0 n table₀ (form_rest format s limit left j (position_at at n)) (Err x) table₁) k
+            (i.goes (Err x) table₁
+            (subst (λ (o : Result (Forest Label)). ReadsRest spans limit l (take len args) frames stored table o (Err x) table₁) (sym (refused_there x e)) refl)))
 
-        module _ (row n₁ next f : ℕ) (e : argument ≡ TermRead.Done row n₁ next f) where
+        module _ (row n₁ next f : ℕ) (e : argument ≡ Ok (read_term row n₁ next f)) where
           there : TermDone (a_term format s limit left (position_at from stored)) stored table row n₁ next f table₁
           there = term_done stored table argument table₁ (a_term format s limit left (position_at from stored)) row n₁ next f e a
 

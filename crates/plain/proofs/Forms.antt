@@ -1,4 +1,7 @@
 -- The rest of a form: its end, one more argument in front of others, and the whole form.
+use Rattle.token.specs.declared.Class.{Class}
+use Rattle.token.specs.Token.{Lexed}
+use Rattle.std.specs.Prelude.{Ok, Err}
 use mathlib.Core.Path.{◌≡◌, refl, sym, ◌∙◌, ap, ap₂, subst}
 use mathlib.Core.List.{List, [], ◌∷◌, ◌++◌, append_assoc, append-nil}
 use mathlib.Core.Bool.{Bool, true, false, cond}
@@ -6,9 +9,7 @@ use Prim.Native.Nat.{ℕ, zero, suc, ◌+◌, ◌≤◌, max}
 use native.Mathlib.Omega.{arith}
 use native.Mathlib.Numerals.{add-one}
 use lib.Dec.{ltb}
-use Rattle.token.specs.declared.Refusal.{Refusal}
 use Rattle.token.specs.declared.Token.{Token}
-use Rattle.token.specs.declared.Lexed.{Lexed}
 use Rattle.terms.specs.Forms.{arity_of, holds_span_in}
 use Rattle.terms.specs.Label.{Label}
 use Rattle.terms.specs.Tree.{Forest, nil, node, Tree, tree, Cell, next, roots, cells}
@@ -22,8 +23,7 @@ use Rattle.expects.specs.declared.Format.{Format}
 use Rattle.expects.specs.Formats.{edition}
 use Rattle.expects.specs.Expects as expects
 use Rattle.expects.specs.Expects.{position_at}
-use Rattle.term_rows.specs.declared.TermRead.{TermRead}
-use Rattle.term_rows.specs.TermRows.{stored_rows, pushed_row, Reads}
+use Rattle.term_rows.specs.TermRows.{TermRead, read_term, stored_rows, pushed_row, Reads}
 use Rattle.term_rows.proofs.Counting.{RowsOf, several_counted, term_counted, term_next}
 use Rattle.term_rows.proofs.StoredRows.{stored_append}
 use Rattle.term_rows.proofs.Readers.{format_sound}
@@ -43,10 +43,7 @@ module _ (format : Format) (s : List ℕ) (limit : ℕ) where
     end_is : (y : Lexed) → x ≡ y → form_end format s (position_at at n) ≡ after (lexed n y) (λ c. λ p. done nil p)
     end_is y e = ap (λ (z : Result Token). after z (λ c. λ p. done nil p)) (closes n ∙ ap (lexed n) e)
 
-    pub unclosed : (y : Refusal) (table₁ : List ℕ) → x ≡ Lexed.Refused y → ReadsRest spans limit l children frames n table (form_end format s (position_at at n)) (TermRead.Refused y) table₁
-    unclosed y table₁ e = subst (λ (o : Result (Forest Label)). ReadsRest spans limit l children frames n table o (TermRead.Refused y) table₁) (sym (end_is _ e)) refl
-
-    pub closed : (t : Token) (r : TermRead) (table₁ : List ℕ) → x ≡ Lexed.Got t → r ≡ stored_term limit n t.end (frames + 1) → table₁ ≡ pushed_row limit table n (row_of l children)
+    pub closed : (t : Token) (r : TermRead) (table₁ : List ℕ) → x ≡ Ok t → r ≡ stored_term limit n t.end (frames + 1) → table₁ ≡ pushed_row limit table n (row_of l children)
         → ReadsRest spans limit l children frames n table (form_end format s (position_at at n)) r table₁
     unfolding stored_rows
     closed t r table₁ e q u =
@@ -124,13 +121,13 @@ module _ (format : Format) (s : List ℕ) (limit : ℕ) where
       stored_by true a u f e k o h g =
           let c : Cell Label = record { label = l; children = roots n a } in
           rw (e, store) (
-            h ∙ ap (λ (b : Bool). cond b (TermRead.Done u.rows (u.rows + 1) u.offset f) (TermRead.Refused (nowhere 8))) e
-                ∙ (λ i. TermRead.Done (k i) (add-one u.rows i) u.offset (o i)),
+            h ∙ ap {B = TermRead} (λ (b : Bool). cond b (Ok (read_term u.rows (u.rows + 1) u.offset f)) (Err (nowhere Class.SurfaceFull))) e
+                ∙ (λ i. Ok (read_term (k i) (add-one u.rows i) u.offset (o i))),
             g ∙ ap (λ (b : Bool). cond b (stored_at 8 (stored_rows spans n table (cells n a)) u.rows (row_of l (roots n a))) (stored_rows spans n table (cells n a))) e
                 ∙ stored_append spans n u.rows table (cells n a) (c ∷ []) (k ∙ next_cells n a),
           )
       stored_by false a u f e k o h g =
-          rw (e, store) (h ∙ ap (λ (b : Bool). cond b (TermRead.Done u.rows (u.rows + 1) u.offset f) (TermRead.Refused (nowhere 8))) e)
+          rw (e, store) (h ∙ ap {B = TermRead} (λ (b : Bool). cond b (Ok (read_term u.rows (u.rows + 1) u.offset f)) (Err (nowhere Class.SurfaceFull))) e)
 
       -- A term without arguments.
       pub leaf_stored : (at : ℕ) → r ≡ stored_term limit n at 0 → table₁ ≡ pushed_row limit table n (row_of l []) → Whole (store (begin format s) (close format s) limit (record { label = l; args = nil }) (position_at at n))

@@ -1,5 +1,6 @@
 -- What the plain reader's functions read, by the reading order of `surface`, and the answer for the rest of a form.
-use Rattle.std.specs.Prelude.{◌≡◌, List, ◌++◌, Bool, cond, ℕ, suc, ◌+◌, max, ltb}
+use Rattle.token.specs.declared.Class.{Class}
+use Rattle.std.specs.Prelude.{Ok, Err, ◌≡◌, List, ◌++◌, Bool, cond, ℕ, suc, ◌+◌, max, ltb}
 use Rattle.token.specs.declared.Token.{Token}
 use Rattle.terms.specs.Forms.{arity_of}
 use Rattle.terms.specs.Label.{Label}
@@ -10,8 +11,7 @@ use Rattle.surface.specs.Reading.{Beginning, frame, beginning, closing, finish, 
 use Rattle.surface.specs.Sizes.{frames_of}
 use Rattle.expects.specs.declared.Format.{Format}
 use Rattle.expects.specs.Formats.{edition}
-use Rattle.term_rows.specs.declared.TermRead.{TermRead}
-use Rattle.term_rows.specs.TermRows.{stored_rows, pushed_row}
+use Rattle.term_rows.specs.TermRows.{TermRead, read_term, stored_rows, pushed_row}
 
 module _ (format : Format) (s : List ℕ) where
   abbrev pub begin : Reader Beginning
@@ -48,7 +48,7 @@ module _ (format : Format) (s : List ℕ) where
 
 -- "8 surface row table (..) full when a completed term must be stored": the answer for a completed term behind n rows.
 abbrev pub stored_term : ℕ → ℕ → ℕ → ℕ → TermRead
-stored_term limit n at frames = cond (ltb n limit) (TermRead.Done n (n + 1) at frames) (TermRead.Refused (nowhere 8))
+stored_term limit n at frames = cond (ltb n limit) (Ok (read_term n (n + 1) at frames)) (Err (nowhere Class.SurfaceFull))
 
 -- The answer for the rest of a form with a label, of which the rows of some arguments are known, with so many frames open at most in these:
 -- the arguments behind them have the rows from n on, and then comes the form's own.
@@ -56,4 +56,4 @@ abbrev pub ReadsRest : (ℕ → Bool) → ℕ → Label → List ℕ → ℕ →
 ReadsRest holds limit l children frames n table (done a q) r table₁ =
     (r ≡ stored_term limit q.rows q.offset (suc (max frames (frames_of a))))
     × (table₁ ≡ pushed_row limit (stored_rows holds n table (cells n a)) q.rows (row_holding holds (record { label = l; children = children ++ roots n a })))
-ReadsRest holds limit l children frames n table (refused x) r table₁ = r ≡ TermRead.Refused x
+ReadsRest holds limit l children frames n table (refused x) r table₁ = r ≡ Err x

@@ -1,9 +1,9 @@
 -- Text and frames that grow from the end of a table.
-use mathlib.Core.Path.{◌≡◌, sym, ap, ◌∙◌, subst}
-use mathlib.Core.List.{List, [], ◌∷◌, ◌++◌, append_assoc}
+use mathlib.Core.Path.{◌≡◌, refl, sym, ap, ◌∙◌, subst}
+use mathlib.Core.List.{List, [], ◌∷◌, ◌++◌, append_assoc, append-nil}
 use Prim.Native.Nat.{ℕ, suc, ◌+◌, ◌-◌, ◌≤◌, ◌<◌}
 use native.Mathlib.Omega.{arith}
-use lib.ListN.{length, get_or, drop, set, length-set, drop_of_length-le}
+use lib.ListN.{length, drop, set, length-set, drop_of_length-le}
 use lib.Seq.{drop-cons, drop-set-lt, get_or-set_same}
 use Rattle.printer.specs.inner.Ends.{Written, Puts}
 
@@ -53,16 +53,24 @@ module _ (out : List ℕ) (at b : ℕ) where
   pub byte_over : length out ≤ at → Puts out at (b ∷ []) out (length out + 1)
   byte_over h = record { front = λ t w. record { told = omega (arith, w.told); content = λ f. absurd (omega (arith, w.told)) } }
 
--- Bytes one after the other, the last one first: none is put yet, one more, and all are.
-module _ (out : List ℕ) (at : ℕ) (bytes : List ℕ) where
-  pub bytes_none : Puts out at (drop (length bytes) bytes) out at
-  bytes_none = puts_as (sym (drop_of_length-le bytes {i = length bytes} (omega arith))) puts_nothing
+-- Bytes one after the other, the last one first: those behind the ones that are left are put.
+pub record Backwards (out : List ℕ) (at : ℕ) (bytes left out₁ : List ℕ) (at₁ : ℕ) : Type 0 where
+  pub done : List ℕ
+  pub whole : left ++ done ≡ bytes
+  pub puts : Puts out at done out₁ at₁
 
-  pub bytes_more : (i : ℕ) (out₁ : List ℕ) (pos : ℕ) (out₂ : List ℕ) (r : ℕ) → 0 < i → i ≤ length bytes
-      → Puts out at (drop i bytes) out₁ pos → Puts out₁ pos (get_or bytes (i - 1) 0 ∷ []) out₂ r → Puts out at (drop (i - 1) bytes) out₂ r
-  bytes_more i out₁ pos out₂ r h k p q =
-      let j : suc (i - 1) ≡ i = omega arith in
-      puts_as (sym (drop-cons bytes (i - 1) 0 (omega arith) ∙ ap (λ (n : ℕ). get_or bytes (i - 1) 0 ∷ drop n bytes) j)) (p then q)
+module _ (out : List ℕ) (at : ℕ) (bytes left out₁ : List ℕ) (pos : ℕ) where
+  pub back_none : left ≡ bytes → Backwards out at bytes left out at
+  back_none e = record { done = []; whole = append-nil left ∙ e; puts = puts_nothing }
 
-  pub bytes_all : (i : ℕ) (out₁ : List ℕ) (pos : ℕ) → i ≤ 0 → Puts out at (drop i bytes) out₁ pos → Puts out at bytes out₁ pos
-  bytes_all i out₁ pos h p = let e : i ≡ 0 = omega arith in puts_as (ap (λ (n : ℕ). drop n bytes) e) p
+  pub back_more : (rest : List ℕ) (b : ℕ) (out₂ : List ℕ) (r : ℕ) → left ≡ rest ++ (b ∷ []) → Backwards out at bytes left out₁ pos → Puts out₁ pos (b ∷ []) out₂ r
+      → Backwards out at bytes rest out₂ r
+  back_more rest b out₂ r e p q =
+      record { done = b ∷ p.done; whole = sym (append_assoc rest (b ∷ []) p.done) ∙ ap (λ (l : List ℕ). l ++ p.done) (sym e) ∙ p.whole; puts = p.puts then q }
+
+  pub back_all : length left ≡ 0 → Backwards out at bytes left out₁ pos → Puts out at bytes out₁ pos
+  back_all z p = puts_as (ap (λ (l : List ℕ). l ++ p.done) (sym (empty left z)) ∙ p.whole) p.puts
+    where
+      empty : (l : List ℕ) → length l ≡ 0 → l ≡ []
+      empty [] e = refl
+      empty (b ∷ l) e = absurd (omega arith)

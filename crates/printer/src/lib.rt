@@ -6,9 +6,9 @@ ghost use Rattle.std.specs.Prelude.{◌≡◌, List, [], ◌∷◌, ℕ, ◌+◌
 ghost use Rattle.tables.specs.Tables.{cleared};
 ghost use Rattle.terms.specs.Forms.{arity_of};
 ghost use Rattle.terms.specs.Rows.{pad};
+ghost use Rattle.token.specs.declared.Class.{Class};
 ghost use Rattle.surface.specs.Reader.{nowhere};
 ghost use Rattle.surface.specs.Tables.{tables};
-ghost use Rattle.printing.specs.declared.Printed as Printed;
 ghost use Rattle.printing.specs.Decimal.{decimal};
 ghost use Rattle.printing.specs.Printing.{declaration_word};
 ghost use Rattle.printing.specs.PrintCall.{Prints};
@@ -16,11 +16,9 @@ ghost use Rattle.printer.specs.inner.Ends.{Puts, Stacked, pushed};
 ghost use Rattle.printer.specs.inner.Machine.{Stands, Holds, Turns, text_word, opening, leaf, taken, enter, settle, step_row, numeral_of, spelled_row, declaration_start, step_declaration, down, whole, Finishes};
 
 use kind_words::{WORDS, kind_at};
-use printing::Printed;
 use rows::{arity, atom, first_row, row_behind};
-use surface::Answer;
 use tables::{clear_from, word_at};
-use token::{Place, Refusal};
+use token::{Class, Refusal};
 
 // How far the text is: so many of its bytes stand at the buffer's end, and so many frames at the work area's end.
 #[derive(Clone, Copy)]
@@ -46,10 +44,8 @@ fn put(out: &mut [u8], at: usize, bytes: &[u8]) -> usize
     ensures { Puts out.old at bytes.now out.new result }
 {
     let mut pos = at;
-    let mut i = bytes.len();
-    while 0 < i {
-        i -= 1;
-        pos = put_byte(out, pos, bytes[i]);
+    for byte in bytes.iter().rev() {
+        pos = put_byte(out, pos, *byte);
     }
     pos
 }
@@ -62,7 +58,7 @@ fn put_decimal(out: &mut [u8], at: usize, n: u32) -> usize
     let mut rest = n;
     while 9 < rest {
         pos = put_byte(out, pos, 48 + (rest % 10) as u8);
-        rest = rest / 10;
+        rest /= 10;
     }
     put_byte(out, pos, 48 + rest as u8)
 }
@@ -130,10 +126,8 @@ fn set_top(work: &mut [u32], top: usize, word: u32)
     ensures { (w : ℕ) (l : List ℕ) → Stacked work.old (w ∷ l) top → Stacked work.new (word ∷ l) top }
 {
     let n = work.len();
-    if 0 < top {
-        if top <= n {
-            work[n - top] = word;
-        }
+    if 0 < top && top <= n {
+        work[n - top] = word;
     }
 }
 
@@ -268,9 +262,7 @@ fn put_rows(
     ensures { Turns work.old out.old marks (down (step_row s.now core.now (length work.old)) from (to - from)) work.new out.new result }
 {
     let mut here = marks;
-    let mut k = to;
-    while from < k {
-        k -= 1;
+    for k in (from..to).rev() {
         here = put_row(s, core, k, work, out, here);
     }
     here
@@ -334,9 +326,7 @@ fn put_declarations(
     ensures { Turns work.old out.old marks (down (step_declaration s.now core.now declarations.now (length work.old)) 0 count) work.new out.new result }
 {
     let mut here = marks;
-    let mut i = count;
-    while 0 < i {
-        i -= 1;
+    for i in (0..count).rev() {
         here = put_declaration(s, core, declarations, i, work, out, here);
     }
     here
@@ -370,10 +360,8 @@ fn move_front(out: &mut [u8], n: usize)
     ensures { take n out.new ≡ drop (length out.old - n) out.old }
 {
     let from = out.len() - n;
-    let mut i = 0;
-    while i < n {
+    for i in 0..n {
         out[i] = out[from + i];
-        i += 1;
     }
 }
 
@@ -381,10 +369,8 @@ fn move_front(out: &mut [u8], n: usize)
 fn clear_bytes(out: &mut [u8], from: usize)
     ensures { out.new ≡ cleared out.old from }
 {
-    let mut i = from;
-    while i < out.len() {
+    for i in from..out.len() {
         out[i] = 0;
-        i += 1;
     }
 }
 
@@ -397,23 +383,8 @@ fn finish(text: &mut [u8], n: usize)
     clear_bytes(text, n);
 }
 
-fn nowhere_14() -> Refusal
-    ensures { result ≡ nowhere 14 }
-{
-    Refusal {
-        class: 14,
-        place: Place::Nowhere,
-    }
-}
-
 // 14 leaves 0 in all that is lent. The work area is 0 already.
-fn refuse(
-    surface: &mut [u32],
-    core: &mut [u32],
-    declarations: &mut [u32],
-    text: &mut [u8],
-) -> Printed
-    ensures value { result ≡ Printed.Refused (nowhere 14) }
+fn clear_lent(surface: &mut [u32], core: &mut [u32], declarations: &mut [u32], text: &mut [u8])
     ensures surface_after { surface.new ≡ cleared surface.old 0 }
     ensures core_after { core.new ≡ cleared core.old 0 }
     ensures declarations_after { declarations.new ≡ cleared declarations.old 0 }
@@ -423,7 +394,6 @@ fn refuse(
     clear_from(core, 0);
     clear_from(declarations, 0);
     clear_bytes(text, 0);
-    Printed::Refused(nowhere_14())
 }
 
 // The text of a loaded source, by the tables that loading left.
@@ -435,7 +405,7 @@ fn print_loaded(
     count: usize,
     work: &mut [u32],
     text: &mut [u8],
-) -> Printed
+) -> Result<usize, Refusal>
     ensures { Stacked work.old [] 0
         → Finishes (whole s.now core.old declarations.old (length work.old) count)
         (tables surface.old core.old declarations.old work.old)
@@ -447,19 +417,11 @@ fn print_loaded(
     let marks = put_module(s, core, declarations, count, work, text);
     let n = marks.at;
     if text.len() < n {
-        return refuse(surface, core, declarations, text);
+        clear_lent(surface, core, declarations, text);
+        return Err(Refusal::nowhere(Class::TextShort));
     }
     finish(text, n);
-    Printed::Text { length: n }
-}
-
-// Loading's own refusal leaves its tables 0.
-fn refused_by_loading(refusal: Refusal, text: &mut [u8]) -> Printed
-    ensures value { result ≡ Printed.Refused refusal }
-    ensures text_after { text.new ≡ cleared text.old 0 }
-{
-    clear_bytes(text, 0);
-    Printed::Refused(refusal)
+    Ok(n)
 }
 
 // Loads a source and writes its core text from the buffer's beginning on; behind it the buffer is 0. The tables are left as loading leaves
@@ -471,7 +433,7 @@ pub fn print(
     declarations: &mut [u32],
     work: &mut [u32],
     text: &mut [u8],
-) -> Printed
+) -> Result<usize, Refusal>
     ensures { Prints s.now
         (tables surface.old core.old declarations.old work.old)
         text.old
@@ -479,12 +441,15 @@ pub fn print(
         (tables surface.new core.new declarations.new work.new)
         text.new }
 {
-    let loaded = loader::load(s, surface, core, declarations, work);
-    match loaded {
-        Answer::Refused(refusal) => refused_by_loading(refusal, text),
-        Answer::Loaded {
-            rows: _,
-            declarations: count,
-        } => print_loaded(s, surface, core, declarations, count, work, text),
+    match loader::load(s, surface, core, declarations, work) {
+        // Loading's own refusal leaves its tables 0.
+        Err(refusal) => {
+            clear_bytes(text, 0);
+            Err(refusal)
+        }
+        Ok(loaded) => {
+            let count = loaded.declarations;
+            print_loaded(s, surface, core, declarations, count, work, text)
+        }
     }
 }

@@ -1,7 +1,9 @@
 -- Core texts that are computed by the definitions: each form as `write_term` of format/printer.rs writes it, and a whole source.
+use Rattle.token.specs.declared.Class.{Class}
 use mathlib.Core.Path.{◌≡◌, refl}
 use mathlib.Core.List.{List, [], ◌∷◌, ◌++◌, map}
 use Prim.Native.Nat.{ℕ}
+use Rattle.std.specs.Prelude.{Ok, Err}
 use Rattle.token.specs.Token.{byte_class, layout_end, atom_from, token_here, next_token}
 use Rattle.words.specs.Words.{ascii, same_bytes, reserved_words, place_in, word_index, reserved, reserved_0_2, all, identifier, numeral}
 use Rattle.utf8.specs.Utf8.{table_3_7, following, valid_from, valid_length, byte_order_mark}
@@ -13,7 +15,6 @@ use Rattle.surface.specs.Reading.{store, finish, several, term, token, opening, 
 use Rattle.surface.specs.Tables.{Lengths, blank}
 use Rattle.surface.specs.Loading.{parsing, reading, loading}
 use Rattle.terms.specs.TextForms.{text_forms}
-use Rattle.printing.specs.declared.Printed.TheVariants.{Text, Refused}
 use Rattle.printing.specs.Decimal.{digits, decimal}
 use Rattle.printing.specs.Printing.{print_shape, print_form, print_terms, declaration_word, print_declarations, text_head, print_module, print_text}
 use Rattle.printing.specs.PrintCall.{printing, print_leaves, print}
@@ -54,8 +55,8 @@ lent = record { surface = 64; core = 64; declarations = 15; work = 16384 }
 worked :
     ((print source lent 178).text ≡ text ++ (0 ∷ 0 ∷ []))
     × ((print with_arrow lent 147).text ≡ arrow_text)
-    × ((print source lent 176).answer ≡ Text 176)
-    × (print source lent 175 ≡ print_leaves (Refused (nowhere 14)) (blank lent) (pad 175 []))
-    × ((print source (record { surface = 64; core = 63; declarations = 15; work = 16384 }) 0).answer ≡ Refused (nowhere 10))
+    × ((print source lent 176).answer ≡ Ok 176)
+    × (print source lent 175 ≡ print_leaves (Err (nowhere Class.TextShort)) (blank lent) (pad 175 []))
+    × ((print source (record { surface = 64; core = 63; declarations = 15; work = 16384 }) 0).answer ≡ Err (nowhere Class.CoreShort))
 unfolding byte_class layout_end atom_from token_here next_token same_bytes reserved_words place_in word_index reserved reserved_0_2 all identifier numeral table_3_7 following valid_from valid_length byte_order_mark forms forms_0_2 edition_0_1 edition_0_2 form_of_word form_of_kind holds_span_in find find_local core_of first_unknown first_refused store finish several term token opening closing atom word natural declaration_kind name bare tagged known beginning_on beginning body declared declaration ending onwards declarations edition_of supported surface_line module_line head read_module parsing reading loading text_forms digits decimal print_shape print_form print_terms declaration_word print_declarations print_module print_text printing print
 worked = (refl, refl, refl, refl, refl)

@@ -1,3 +1,4 @@
+pub mod Answer
 pub mod Decimal
 pub mod Printing
 pub mod PrintCall

@@ -1,6 +1,6 @@
 -- The numbers of a token: a byte is refused with 1 at its offset, wherever it stands.
+use Rattle.token.specs.Token.{Lexed}
 use mathlib.Core.Path.{◌≡◌, refl}
-use Rattle.token.specs.declared.Lexed.{Lexed}
 use Rattle.token.proofs.Outcomes.{every_token}
 use Rattle.surface.specs.Reports.{report_token}
 use Rattle.probe.specs.Numbers.{kind_number, start_number, end_number}

@@ -1,26 +1,25 @@
 -- The answers of the inner layers as numbers.
-use Rattle.std.specs.Prelude.{ℕ, cond, List, eqb, length}
+use Rattle.token.specs.Token.{Lexed, Place}
+use Rattle.std.specs.Prelude.{ℕ, cond, List, eqb, length, Ok, Err, Some, None}
 use Rattle.differences.specs.Differences.{first_difference}
-use Rattle.token.specs.declared.Place.{Place}
-use Rattle.token.specs.declared.Lexed.{Lexed}
 use Rattle.words.specs.declared.NameTest.{NameTest}
 pub use Rattle.surface.specs.Reports.{token_number}
 
 abbrev pub place_number : Place → ℕ
-place_number (Place.At at) = at
-place_number Place.Nowhere = 0
+place_number (Some at) = at
+place_number None = 0
 
 abbrev pub kind_number : Lexed → ℕ
-kind_number (Lexed.Got t) = token_number t.kind
-kind_number (Lexed.Refused r) = 0
+kind_number (Ok t) = token_number t.kind
+kind_number (Err r) = 0
 
 abbrev pub start_number : Lexed → ℕ
-start_number (Lexed.Got t) = t.start
-start_number (Lexed.Refused r) = place_number r.place
+start_number (Ok t) = t.start
+start_number (Err r) = place_number r.place
 
 abbrev pub end_number : Lexed → ℕ
-end_number (Lexed.Got t) = t.end
-end_number (Lexed.Refused r) = place_number r.place
+end_number (Ok t) = t.end
+end_number (Err r) = place_number r.place
 
 -- 0 for a name, else the class of the refusal: 3 reserved, 1 malformed.
 abbrev pub test_number : NameTest → ℕ

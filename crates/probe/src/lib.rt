@@ -7,18 +7,18 @@ ghost use Rattle.words.specs.Words.{same_bytes, word_index, numeral, name_test};
 ghost use Rattle.utf8.specs.Utf8.{valid_length, byte_order_mark};
 ghost use Rattle.probe.specs.Numbers.{place_number, token_number, kind_number, start_number, end_number, test_number, difference_number};
 
-use token::{Lexed, Place, TokenKind};
+use token::{Refusal, Token, TokenKind};
 use words::NameTest;
 
 // No name is so long.
 const NO_PLACE: usize = 18446744073709551615;
 
-fn place_number(p: Place) -> usize
+fn place_number(p: Option<usize>) -> usize
     ensures { result ≡ place_number p }
 {
     match p {
-        Place::At(at) => at,
-        Place::Nowhere => 0,
+        Some(at) => at,
+        None => 0,
     }
 }
 
@@ -34,39 +34,39 @@ fn token_number(k: TokenKind) -> u8
     }
 }
 
-fn kind_number(lexed: Lexed) -> u8
+fn kind_number(lexed: Result<Token, Refusal>) -> u8
     ensures { result ≡ kind_number lexed }
 {
     match lexed {
-        Lexed::Refused(_) => 0,
-        Lexed::Got(t) => {
+        Err(_) => 0,
+        Ok(t) => {
             let kind = t.kind;
             token_number(kind)
         }
     }
 }
 
-fn start_number(lexed: Lexed) -> usize
+fn start_number(lexed: Result<Token, Refusal>) -> usize
     ensures { result ≡ start_number lexed }
 {
     match lexed {
-        Lexed::Refused(refusal) => {
+        Err(refusal) => {
             let place = refusal.place;
             place_number(place)
         }
-        Lexed::Got(t) => t.start,
+        Ok(t) => t.start,
     }
 }
 
-fn end_number(lexed: Lexed) -> usize
+fn end_number(lexed: Result<Token, Refusal>) -> usize
     ensures { result ≡ end_number lexed }
 {
     match lexed {
-        Lexed::Refused(refusal) => {
+        Err(refusal) => {
             let place = refusal.place;
             place_number(place)
         }
-        Lexed::Got(t) => t.end,
+        Ok(t) => t.end,
     }
 }
 

@@ -1,4 +1,5 @@
 -- Reading goes on behind what was read and within the source; its rows are stored, and there are no more of them than bytes.
+use Rattle.token.specs.declared.Class.{Class}
 use mathlib.Core.Path.{◌≡◌, refl, ◌∙◌, ap}
 use mathlib.Core.List.{List, []}
 use mathlib.Core.Option.{Option}
@@ -114,10 +115,10 @@ module _ (format : Format) (s : List ℕ) (limit : ℕ) where
       → Gives (AllBehind p) (onwards (edition format) s (whole_term format s limit) (declared_name format s) (ends format) more t k q)
   unfolding onwards ending
   onwards_behind more p t q e TokenKind.LParen g = g refl
-  onwards_behind more p t q e TokenKind.RParen g = gives_require (AllBehind p) (ends format TokenKind.RParen) (at_token 1 t) (pure []) q (λ y. e)
-  onwards_behind more p t q e TokenKind.Atom g = gives_require (AllBehind p) (ends format TokenKind.Atom) (at_token 1 t) (pure []) q (λ y. e)
-  onwards_behind more p t q e TokenKind.String g = gives_require (AllBehind p) (ends format TokenKind.String) (at_token 1 t) (pure []) q (λ y. e)
-  onwards_behind more p t q e TokenKind.Eof g = gives_require (AllBehind p) (ends format TokenKind.Eof) (at_token 1 t) (pure []) q (λ y. e)
+  onwards_behind more p t q e TokenKind.RParen g = gives_require (AllBehind p) (ends format TokenKind.RParen) (at_token Class.Malformed t) (pure []) q (λ y. e)
+  onwards_behind more p t q e TokenKind.Atom g = gives_require (AllBehind p) (ends format TokenKind.Atom) (at_token Class.Malformed t) (pure []) q (λ y. e)
+  onwards_behind more p t q e TokenKind.String g = gives_require (AllBehind p) (ends format TokenKind.String) (at_token Class.Malformed t) (pure []) q (λ y. e)
+  onwards_behind more p t q e TokenKind.Eof g = gives_require (AllBehind p) (ends format TokenKind.Eof) (at_token Class.Malformed t) (pure []) q (λ y. e)
 
   all_behind : (room : ℕ) (p : Position) → p.offset ≤ length s → p.rows ≤ limit → Gives (AllBehind p) (all_declarations format s limit room p)
   unfolding declarations

@@ -1,5 +1,7 @@
 -- What `read_declarations` answers, for its callers: the declarations that were read, what the tables hold then, and where reading goes on.
-use mathlib.Core.Path.{◌≡◌, sym, ◌∙◌, ap, ap₂}
+use Rattle.reader.specs.Answers.{DeclarationsRead, declarations_read}
+use Rattle.std.specs.Prelude.{Err}
+use mathlib.Core.Path.{◌≡◌, sym, ◌∙◌, ap}
 use mathlib.Core.List.{List}
 use Prim.Native.Nat.{ℕ, ◌+◌, ◌-◌, ◌≤◌, max}
 use native.Mathlib.Omega.{arith}
@@ -13,7 +15,7 @@ use Rattle.tables.specs.Tables.{with_words}
 use Rattle.expects.specs.declared.Format.{Format}
 use Rattle.expects.specs.Expects.{position_at}
 use Rattle.reader.specs.declared.Limits.{Limits}
-use Rattle.reader.specs.declared.DeclarationsRead.{DeclarationsRead}
+use Rattle.reader.specs.declared.AllDeclarations.{AllDeclarations}
 use Rattle.reader.specs.ModuleWords.{all_declarations, format_rows}
 use Rattle.reader.specs.Parts.{ReadsFrom, left, ReadsDeclarations}
 use Rattle.reader.specs.Reads.{Holds, ModuleInside}
@@ -43,22 +45,23 @@ module _ (format : Format) (limits : Limits) (s table list work : List ℕ) (fro
   all_left : left format limits s from 0 0 ≡ all_from format limits s from
   all_left = ap (λ (i : ℕ). all_declarations format s limits.rows i (position_at from 0)) (let z : limits.declarations - 0 ≡ limits.declarations = omega arith in z)
 
-  pub all_refused : (x : Refusal) → r ≡ DeclarationsRead.Refused x → all_from format limits s from ≡ refused x
+  pub all_refused : (x : Refusal) → r ≡ Err x → all_from format limits s from ≡ refused x
   all_refused x e = sym all_left ∙ by (left format limits s from 0 0) (h inside)
     where
       by : (y : Result (List Declaration)) → ReadsFrom format limits 0 0 0 y table list r table₁ list₁ → y ≡ refused x
       by (done ds q) g = absurd (let z : ◌≡◌ {A = ℕ} 0 1 = cc g.0 in omega arith)
       by (refused z) g = ap refused (cc)
 
-  pub all_read : (n k at h : ℕ) → r ≡ DeclarationsRead.Done n k at h → AllRead format limits s table list from n k at h table₁ list₁
+  pub all_read : (n k at h : ℕ) → r ≡ declarations_read n k at h → AllRead format limits s table list from n k at h table₁ list₁
   all_read n k at m e = by (left format limits s from 0 0) (sym all_left) (h inside)
     where
       by : (y : Result (List Declaration)) → all_from format limits s from ≡ y → ReadsFrom format limits 0 0 0 y table list r table₁ list₁ → AllRead format limits s table list from n k at m table₁ list₁
       by (refused z) i g = absurd (let z : ◌≡◌ {A = ℕ} 0 1 = cc in omega arith)
       by (done ds q) i g =
-          let read : all_from format limits s from ≡ done ds (position_at at n) = i ∙ ap₂ (λ (a b : ℕ). done ds (position_at a b)) (cc g.0) (cc g.0) in
-          let c : k ≡ 0 + length ds = cc g.0 in
-          let f : m ≡ max 0 (deepest ds) = cc g.0 in
+          let is : ◌≡◌ {A = AllDeclarations} (record { rows = q.rows; declarations = 0 + length ds; next = q.offset; frames = max 0 (deepest ds) }) (record { rows = n; declarations = k; next = at; frames = m }) = cc g.0 in
+          let read : all_from format limits s from ≡ done ds (position_at at n) = i ∙ (λ j. done ds (position_at (is j).next (is j).rows)) in
+          let c : 0 + length ds ≡ k = λ j. (is j).declarations in
+          let f : max 0 (deepest ds) ≡ m = λ j. (is j).frames in
           record {
             declarations = ds;
             read = read;

@@ -1,14 +1,16 @@
 -- A declaration by its parts: what the reading order gives, and the words that are stored.
+use Rattle.reader.specs.Answers.{DeclarationRead, declaration_read}
+use Rattle.expects.specs.Answers.{NameRead}
+use Rattle.token.specs.Token.{Lexed}
+use Rattle.std.specs.Prelude.{Ok, Err}
 use mathlib.Core.Path.{◌≡◌, refl, sym, ◌∙◌, ap, ap₂, subst}
 use mathlib.Core.List.{List, [], ◌∷◌, ◌++◌}
 use mathlib.Core.Option.{Option, none, some}
-use Prim.Native.Nat.{ℕ, suc, ◌+◌, ◌-◌, ◌*◌, ◌/◌, ◌≤◌, ◌<◌, max}
+use Prim.Native.Nat.{ℕ, suc, ◌-◌, ◌*◌, ◌/◌, ◌≤◌, ◌<◌, max}
 use native.Mathlib.Omega.{arith}
 use lib.ListN.{length}
 use Rattle.token.specs.declared.Token.{Token}
 use Rattle.token.specs.declared.Refusal.{Refusal}
-use Rattle.token.specs.declared.Lexed.{Lexed}
-use Rattle.token.specs.declared.Lexed.TheVariants.{Got, Refused}
 use Rattle.terms.specs.Label.{Label, Declaration, trees}
 use Rattle.terms.specs.Tree.{nil, Tree, tree, next, roots}
 use Rattle.terms.specs.Rows.{pad, read_record}
@@ -18,13 +20,11 @@ use Rattle.surface.specs.Sizes.{frames_of}
 use Rattle.tables.specs.Tables.{with_words}
 use Rattle.rows.specs.Places.{stored_at}
 use Rattle.rows.proofs.Storing.{stored_at_place}
-use Rattle.expects.specs.declared.NameRead.{NameRead}
 use Rattle.expects.specs.Expects.{position_at, Reads, Names}
 use Rattle.term_rows.proofs.StoredRows.{with_more_words}
 use Rattle.expects.specs.declared.Format.{Format}
 use Rattle.expects.specs.Formats.{edition}
 use Rattle.reader.specs.declared.Limits.{Limits}
-use Rattle.reader.specs.declared.DeclarationRead.{DeclarationRead}
 use Rattle.reader.specs.ModuleWords.{whole_term, one_body, named_declaration, forest_words, body_trees, body_row}
 use Rattle.reader.specs.Parts.{Finishes}
 use Rattle.reader.specs.Reads.{Holds, Declares}
@@ -34,11 +34,11 @@ use Rattle.reader.proofs.Parts.{TypeRead, BodyRead}
 
 -- The end of a declaration, where x is read for its closing parenthesis.
 module _ (format : Format) (s : List ℕ) (at n k frames : ℕ) (list words : List ℕ) (x : Lexed) (h : Reads (closing ((edition format).tokens s)) at x) where
-  pub end_refused : (r : Refusal) → x ≡ Refused r → Finishes (closing ((edition format).tokens s) (position_at at n)) k frames list words (DeclarationRead.Refused r) list
+  pub end_refused : (r : Refusal) → x ≡ Err r → Finishes (closing ((edition format).tokens s) (position_at at n)) k frames list words (Err r) list
   end_refused r e = rw (h n, e) (refl, refl)
 
-  pub end_got : (c : Token) → x ≡ Got c → (list₁ : List ℕ) → list₁ ≡ stored_at 5 list k words
-      → Finishes (closing ((edition format).tokens s) (position_at at n)) k frames list words (DeclarationRead.Done n c.end frames) list₁
+  pub end_got : (c : Token) → x ≡ Ok c → (list₁ : List ℕ) → list₁ ≡ stored_at 5 list k words
+      → Finishes (closing ((edition format).tokens s) (position_at at n)) k frames list words (declaration_read n c.end frames) list₁
   end_got c e list₁ i = rw (h n, e) (refl, i)
 
 -- A declaration of kind 1 + j behind its word, by its parts.
@@ -47,11 +47,11 @@ module _ (format : Format) (s : List ℕ) (limit : ℕ) (t : Token) (j at n : �
   answer = named_declaration format s limit t (suc j) (position_at at n)
 
   module _ (x : NameRead) (h : Names format s at x) where
-    pub name_refused : (r : Refusal) → x ≡ NameRead.Refused r → answer ≡ refused r
+    pub name_refused : (r : Refusal) → x ≡ Err r → answer ≡ refused r
     unfolding declared
     name_refused r e = rw (h n, e)
 
-    module _ (m : Token) (at₀ : ℕ) (e : x ≡ NameRead.Got m at₀) where
+    module _ (m : Token) (at₀ : ℕ) (e : x ≡ Ok (m, at₀)) where
       pub type_refused : (r : Refusal) → whole_term format s limit (position_at at₀ n) ≡ refused r → answer ≡ refused r
       unfolding declared
       type_refused r q = rw (h n, e, q)
@@ -72,7 +72,7 @@ module _ (format : Format) (s : List ℕ) (limit : ℕ) (t : Token) (j at n : �
           declared_done c p q = rw (h n, e, q₁, q₂, q)
 
 pub stops : (format : Format) (limits : Limits) (y : Result Declaration) (x : Refusal) (n k : ℕ) (table list table₁ list₁ : List ℕ) → y ≡ refused x
-    → Declares format limits y n k table list (DeclarationRead.Refused x) table₁ list₁
+    → Declares format limits y n k table list (Err x) table₁ list₁
 stops format limits y x n k table list table₁ list₁ e = rw e refl
 
 -- The words of a record.
@@ -81,7 +81,7 @@ body_word n none = refl
 body_word n (some b) = refl
 
 -- A declaration whose parts were read and whose end was asked for.
-module _ (format : Format) (limits : Limits) (s table list : List ℕ) (at n k : ℕ) (t : Token) (j : ℕ) (x : NameRead) (h : Names format s at x) (m : Token) (at₀ : ℕ) (e : x ≡ NameRead.Got m at₀)
+module _ (format : Format) (limits : Limits) (s table list : List ℕ) (at n k : ℕ) (t : Token) (j : ℕ) (x : NameRead) (h : Names format s at x) (m : Token) (at₀ : ℕ) (e : x ≡ Ok (m, at₀))
     (row n₁ at₁ h₁ : ℕ) (table₁ : List ℕ) (long : length table₁ ≡ length table) (a : TypeRead format limits.rows (whole_term format s limits.rows (position_at at₀ n)) n table row n₁ at₁ h₁ table₁)
     (body n₂ at₂ h₂ : ℕ) (table₂ : List ℕ) (b : BodyRead format limits.rows (one_body format s limits.rows j (position_at at₁ n₁)) n₁ table₁ body n₂ at₂ h₂ table₂)
     (stored : n ≤ limits.rows) (room : k < limits.declarations) (top : ℕ) (most : top ≡ max h₁ h₂) where
@@ -123,4 +123,4 @@ module _ (format : Format) (limits : Limits) (s table list : List ℕ) (at n k :
   ended (refused z) q r list₁ f = rw (close_refused format s limit t j at n x h m at₀ e a.type at₁ n₁ a.read b.body at₂ n₂ b.read z q) f.0
   ended (done c p) q r list₁ f =
       rw (declared_done format s limit t j at n x h m at₀ e a.type at₁ n₁ a.read b.body at₂ n₂ b.read c p q)
-      (f.0 ∙ ap (DeclarationRead.Done p.rows p.offset) frames_are, rows_are, λ holds. f.1 ∙ stored_at_place 5 list k words refl (omega arith) (omega arith) ∙ ap (with_words list (k * 5)) record_is)
+      (f.0 ∙ ap (declaration_read p.rows p.offset) frames_are, rows_are, λ holds. f.1 ∙ stored_at_place 5 list k words refl (omega arith) (omega arith) ∙ ap (with_words list (k * 5)) record_is)

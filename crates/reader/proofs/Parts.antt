@@ -1,5 +1,6 @@
 -- What the reader of terms gives, as trees: a type, and a body that may be absent.
-use mathlib.Core.Path.{◌≡◌, refl, sym, ◌∙◌, ap, ap₂}
+use Rattle.std.specs.Prelude.{Ok, Err}
+use mathlib.Core.Path.{◌≡◌, refl, sym, ◌∙◌, ap}
 use mathlib.Core.List.{List}
 use mathlib.Core.Bool.{Bool}
 use mathlib.Core.Option.{Option, some}
@@ -14,8 +15,7 @@ use Rattle.surface.specs.Reading.{body}
 use Rattle.surface.specs.Sizes.{frames_of}
 use Rattle.tables.specs.Tables.{with_words}
 use Rattle.expects.specs.Expects.{position_at}
-use Rattle.term_rows.specs.TermRows.{TermBounds, Reads}
-use Rattle.term_rows.specs.declared.TermRead.{TermRead}
+use Rattle.term_rows.specs.TermRows.{TermRead, read_term, TermBounds, Reads}
 use Rattle.term_rows.proofs.StoredRows.{with_no_words, stored_words}
 use Rattle.terms.proofs.Cells.{next_cells}
 use Rattle.expects.specs.declared.Format.{Format}
@@ -54,7 +54,7 @@ module _ (format : Format) (limit : ℕ) (s table : List ℕ) (at n : ℕ) (stor
 
   -- The body of a declaration of kind 1 + j.
   module _ (r : TermRead) (table₁ : List ℕ) where
-    pub no_body : (j : ℕ) → j ≡ 0 → r ≡ TermRead.Done 0 n at 0 → table₁ ≡ table → BodyReads format limit (one_body format s limit j (position_at at n)) n table r table₁
+    pub no_body : (j : ℕ) → j ≡ 0 → r ≡ Ok (read_term 0 n at 0) → table₁ ≡ table → BodyReads format limit (one_body format s limit j (position_at at n)) n table r table₁
     unfolding body
     no_body j z e k = rw z (e, λ holds. k ∙ sym (with_no_words table (n * 8)))
 
@@ -81,16 +81,20 @@ pub record TypeRead (format : Format) (limit : ℕ) (x : Result (Tree Label)) (n
   pub words : Holds 8 limit table → table₁ ≡ with_words table (n * 8) (forest_words format n (tree type nil))
 
 module _ (format : Format) (limit n : ℕ) (table : List ℕ) (r : TermRead) (table₁ : List ℕ) where
-  module _ (row m at frames : ℕ) (e : r ≡ TermRead.Done row m at frames) where
+  module _ (row m at frames : ℕ) (e : r ≡ Ok (read_term row m at frames)) where
     pub body_done : (y : Result (Option (Tree Label))) → BodyReads format limit y n table r table₁ → BodyRead format limit y n table row m at frames table₁
-    body_done (done b q) h = record { body = b; frames_are = cc h.0; read = ap₂ (λ (o k : ℕ). done b (position_at o k)) (cc h.0) (cc h.0); row_is = cc h.0; words = h.1 }
+    body_done (done b q) h =
+        let is : read_term (body_row n b) q.rows q.offset (frames_of (body_trees b)) ≡ read_term row m at frames = cc h.0 in
+        record { body = b; frames_are = λ i. (sym is i).frames; read = λ i. done b (position_at (is i).next (is i).rows); row_is = λ i. (sym is i).row; words = h.1 }
     body_done (refused x) h = absurd (let z : ◌≡◌ {A = ℕ} 0 1 = cc in omega arith)
 
     pub type_done : (x : Result (Tree Label)) → BodyReads format limit (present x) n table r table₁ → TypeRead format limit x n table row m at frames table₁
-    type_done (done t q) h = record { type = t; frames_are = cc h.0; read = ap₂ (λ (o k : ℕ). done t (position_at o k)) (cc h.0) (cc h.0); row_is = cc h.0; words = h.1 }
+    type_done (done t q) h =
+        let is : read_term (next n t.args) q.rows q.offset (frames_of (tree t nil)) ≡ read_term row m at frames = cc h.0 in
+        record { type = t; frames_are = λ i. (sym is i).frames; read = λ i. done t (position_at (is i).next (is i).rows); row_is = λ i. (sym is i).row; words = h.1 }
     type_done (refused x) h = absurd (let z : ◌≡◌ {A = ℕ} 0 1 = cc in omega arith)
 
-  module _ (x : Refusal) (e : r ≡ TermRead.Refused x) where
+  module _ (x : Refusal) (e : r ≡ Err x) where
     pub body_refused : (y : Result (Option (Tree Label))) → BodyReads format limit y n table r table₁ → y ≡ refused x
     body_refused (done b q) h = absurd (let z : ◌≡◌ {A = ℕ} 0 1 = cc h.0 in omega arith)
     body_refused (refused z) h = ap refused (cc)

@@ -1,3 +1,4 @@
+pub mod Answers
 pub mod ModuleWords
 pub mod Reads
 pub mod Parts

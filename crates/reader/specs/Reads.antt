@@ -1,5 +1,7 @@
 -- What the reader of modules promises: its answers and the words that it leaves, by the reading order of `surface`.
-use Rattle.std.specs.Prelude.{◌≡◌, List, ℕ, ◌*◌, ◌/◌, ◌≤◌, length}
+use Rattle.reader.specs.Answers.{DeclarationRead, ModuleMeasured, ModuleRead, declaration_read, measured}
+use Rattle.surface.specs.Answer.{loaded}
+use Rattle.std.specs.Prelude.{◌≡◌, List, ℕ, ◌*◌, ◌/◌, ◌≤◌, length, Err}
 use Rattle.terms.specs.Label.{Declaration, trees}
 use Rattle.terms.specs.Rows.{surface_rows, joined, read_record, read_records}
 use Rattle.surface.specs.Reader.{Result, done, refused}
@@ -8,9 +10,6 @@ use Rattle.tables.specs.Tables.{with_words}
 use Rattle.expects.specs.declared.Format.{Format}
 use Rattle.reader.specs.ModuleWords.{row_words}
 use Rattle.reader.specs.declared.Limits.{Limits}
-use Rattle.reader.specs.declared.DeclarationRead.{DeclarationRead}
-use Rattle.reader.specs.declared.ModuleMeasured.{ModuleMeasured}
-use Rattle.reader.specs.declared.ModuleRead.{ModuleRead}
 
 -- A table with a place of some width for each of so many.
 abbrev pub Holds : ℕ → ℕ → List ℕ → Type 0
@@ -28,20 +27,20 @@ pub record ModuleInside (limit : ℕ) (s work : List ℕ) (at n : ℕ) : Type 0 
 -- that hold as much as there is room for.
 abbrev pub Declares : Format → Limits → Result Declaration → ℕ → ℕ → List ℕ → List ℕ → DeclarationRead → List ℕ → List ℕ → Type 0
 Declares f limits (done d q) n k table list r table₁ list₁ =
-    (r ≡ DeclarationRead.Done q.rows q.offset (frames_of (trees d))) × (Holds 8 limits.rows table → table₁ ≡ with_words table (n * 8) (row_words f n d))
+    (r ≡ declaration_read q.rows q.offset (frames_of (trees d))) × (Holds 8 limits.rows table → table₁ ≡ with_words table (n * 8) (row_words f n d))
     × (Holds 5 limits.declarations list → list₁ ≡ with_words list (k * 5) (read_record n d))
-Declares f limits (refused x) n k table list r table₁ list₁ = r ≡ DeclarationRead.Refused x
+Declares f limits (refused x) n k table list r table₁ list₁ = r ≡ Err x
 
 -- The answer for a whole module, in tables that hold as much as there is room for: the words of its rows and records stand at the beginning
 -- of the tables, and what lay behind them is untouched. Of the tables after a refusal nothing is said: the caller clears them.
 abbrev pub Measures : Limits → Result (List Declaration) → List ℕ → List ℕ → ModuleMeasured → List ℕ → List ℕ → Type 0
 Measures limits (done ds q) table list r table₁ list₁ =
-    (r ≡ ModuleMeasured.Done q.rows (length ds) (deepest ds)) × (Holds 8 limits.rows table → table₁ ≡ with_words table 0 (joined (surface_rows 0 ds)))
+    (r ≡ measured q.rows (length ds) (deepest ds)) × (Holds 8 limits.rows table → table₁ ≡ with_words table 0 (joined (surface_rows 0 ds)))
     × (Holds 5 limits.declarations list → list₁ ≡ with_words list 0 (joined (read_records 0 ds)))
-Measures limits (refused x) table list r table₁ list₁ = r ≡ ModuleMeasured.Refused x
+Measures limits (refused x) table list r table₁ list₁ = r ≡ Err x
 
 -- The same where the tables say how much there is room for, and the frames are not told.
 abbrev pub ReadsModule : Result (List Declaration) → List ℕ → List ℕ → ModuleRead → List ℕ → List ℕ → Type 0
 ReadsModule (done ds q) table list r table₁ list₁ =
-    (r ≡ ModuleRead.Done q.rows (length ds)) × (table₁ ≡ with_words table 0 (joined (surface_rows 0 ds))) × (list₁ ≡ with_words list 0 (joined (read_records 0 ds)))
-ReadsModule (refused x) table list r table₁ list₁ = r ≡ ModuleRead.Refused x
+    (r ≡ loaded q.rows (length ds)) × (table₁ ≡ with_words table 0 (joined (surface_rows 0 ds))) × (list₁ ≡ with_words list 0 (joined (read_records 0 ds)))
+ReadsModule (refused x) table list r table₁ list₁ = r ≡ Err x

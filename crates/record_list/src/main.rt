@@ -6,15 +6,12 @@
 ghost use Rattle.std.specs.Prelude.{◌≡◌};
 ghost use Rattle.record_list.specs.Left.{Left, used};
 
-use binding::Binding;
-use dependence::Dependence;
-use printing::Printed;
-use reader::ModuleRead;
+use binding::Binder;
 use record_loader::{Question, Reply};
 use records::Declaration;
 use std::io;
-use surface::Answer;
-use token::{Place, Refusal};
+use surface::Loaded;
+use token::Refusal;
 
 // A record with something in every field, as a former call may have left it.
 fn used_record() -> Declaration
@@ -53,9 +50,9 @@ fn print_number(rt: &impl Print, n: u64) -> io::Result<()> {
 
 fn print_refusal(rt: &impl Print, refusal: Refusal) -> io::Result<()> {
     print!(rt; "refused")?;
-    print_number(rt, refusal.class as u64)?;
+    print_number(rt, refusal.class.number() as u64)?;
     let place = refusal.place;
-    if let Place::At(at) = place {
+    if let Some(at) = place {
         print!(rt; " at")?;
         print_number(rt, at as u64)?;
     }
@@ -67,78 +64,59 @@ fn print_counts(rt: &impl Print, rows: usize, declarations: usize) -> io::Result
     print_number(rt, declarations as u64)
 }
 
-fn print_loaded(rt: &impl Print, answer: Answer) -> io::Result<()> {
+// What was loaded or read, by a word for it.
+fn print_tables(rt: &impl Print, word: &str, answer: Result<Loaded, Refusal>) -> io::Result<()> {
     match answer {
-        Answer::Loaded { rows, declarations } => {
-            print!(rt; "loaded")?;
+        Ok(Loaded { rows, declarations }) => {
+            print!(rt; "{word}")?;
             print_counts(rt, rows, declarations)
         }
-        Answer::Refused(refusal) => print_refusal(rt, refusal),
+        Err(refusal) => print_refusal(rt, refusal),
     }
 }
 
-fn print_read(rt: &impl Print, answer: ModuleRead) -> io::Result<()> {
+fn print_dependence(rt: &impl Print, answer: Result<Option<usize>, Refusal>) -> io::Result<()> {
     match answer {
-        ModuleRead::Done { rows, declarations } => {
-            print!(rt; "read")?;
-            print_counts(rt, rows, declarations)
-        }
-        ModuleRead::Refused(refusal) => print_refusal(rt, refusal),
-    }
-}
-
-fn print_dependence(rt: &impl Print, answer: Dependence) -> io::Result<()> {
-    match answer {
-        Dependence::Yes { row } => {
+        Ok(Some(row)) => {
             print!(rt; "yes")?;
             print_number(rt, row as u64)
         }
-        Dependence::No => print!(rt; "no"),
-        Dependence::Refused(refusal) => print_refusal(rt, refusal),
+        Ok(None) => print!(rt; "no"),
+        Err(refusal) => print_refusal(rt, refusal),
     }
 }
 
-fn print_printed(rt: &impl Print, answer: Printed) -> io::Result<()> {
+fn print_printed(rt: &impl Print, answer: Result<usize, Refusal>) -> io::Result<()> {
     match answer {
-        Printed::Text { length } => {
+        Ok(length) => {
             print!(rt; "printed")?;
             print_number(rt, length as u64)
         }
-        Printed::Refused(refusal) => print_refusal(rt, refusal),
+        Err(refusal) => print_refusal(rt, refusal),
     }
 }
 
-fn print_text_read(rt: &impl Print, answer: Answer) -> io::Result<()> {
+fn print_bound(rt: &impl Print, answer: Result<Binder, Refusal>) -> io::Result<()> {
     match answer {
-        Answer::Loaded { rows, declarations } => {
-            print!(rt; "text read")?;
-            print_counts(rt, rows, declarations)
-        }
-        Answer::Refused(refusal) => print_refusal(rt, refusal),
-    }
-}
-
-fn print_bound(rt: &impl Print, answer: Binding) -> io::Result<()> {
-    match answer {
-        Binding::Local { count, row } => {
+        Ok(Binder::Local { count, row }) => {
             print!(rt; "var")?;
             print_counts(rt, count, row)
         }
-        Binding::Global { place } => {
+        Ok(Binder::Global { place }) => {
             print!(rt; "global")?;
             print_number(rt, place as u64)
         }
-        Binding::Refused(refusal) => print_refusal(rt, refusal),
+        Err(refusal) => print_refusal(rt, refusal),
     }
 }
 
 fn print_reply(rt: &impl Print, reply: Reply) -> io::Result<()> {
     match reply {
-        Reply::Loaded(answer) => print_loaded(rt, answer)?,
-        Reply::Parsed(answer) => print_read(rt, answer)?,
+        Reply::Loaded(answer) => print_tables(rt, "loaded", answer)?,
+        Reply::Parsed(answer) => print_tables(rt, "read", answer)?,
         Reply::Depends(answer) => print_dependence(rt, answer)?,
         Reply::Printed(answer) => print_printed(rt, answer)?,
-        Reply::Read(answer) => print_text_read(rt, answer)?,
+        Reply::Read(answer) => print_tables(rt, "text read", answer)?,
         Reply::Bound(answer) => print_bound(rt, answer)?,
     }
     println!(rt)
@@ -157,12 +135,11 @@ fn print_record(rt: &impl Print, words: &[u32], k: usize) -> io::Result<()> {
 
 // How many bytes were printed.
 fn printed_length(reply: Reply) -> usize {
-    if let Reply::Printed(answer) = reply {
-        if let Printed::Text { length } = answer {
-            return length;
-        }
+    if let Reply::Printed(Ok(length)) = reply {
+        length
+    } else {
+        0
     }
-    0
 }
 
 // The beginning of a buffer.

@@ -14,7 +14,7 @@ use Rattle.surface.specs.Reader.{Position, Result, done, refused}
 use Rattle.surface.specs.Tables.{Lengths, Tables, tables, Left, leaves}
 use Rattle.surface.specs.Loading.{Outcome, outcome}
 use Rattle.loader.specs.Parsed.{parsed}
-use Rattle.printing.specs.declared.Printed.{Printed}
+use Rattle.printing.specs.Answer.{Printed}
 use Rattle.printing.specs.PrintCall.{print_outcome}
 use Rattle.records.specs.Records.{records_of, word_limit}
 use Rattle.records.proofs.Whole.{limit_within}

@@ -7,7 +7,7 @@ use lib.ListN.{take, drop}
 use lib.Seq.{take-nil}
 use Rattle.terms.specs.Content.{record_content}
 use Rattle.terms.specs.Rows.{first_rows}
-use Rattle.surface.specs.declared.Answer.{Answer}
+use Rattle.surface.specs.Answer.{Answer}
 use Rattle.surface.specs.Tables.{Tables, leaves}
 use Rattle.surface.specs.Loading.{Outcome}
 use Rattle.surface.specs.SameCore.{declaration_count}

@@ -13,7 +13,7 @@ use Rattle.terms.specs.Rows.{pad, joined, declaration_records}
 use Rattle.terms.proofs.Tables.{length_pad, getD_pad, length_joined, joined_at}
 use Rattle.terms.proofs.Widths.{wide_records, count_records}
 use Rattle.surface.specs.Reader.{Position, start, Result, done, refused}
-use Rattle.surface.specs.declared.Answer.{Answer}
+use Rattle.surface.specs.Answer.{Answer}
 use Rattle.surface.specs.Tables.{Lengths, tables, leaves}
 use Rattle.surface.specs.Loading.{Outcome, outcome, loading, load}
 use Rattle.records.specs.declared.Declaration as R

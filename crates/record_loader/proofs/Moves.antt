@@ -1,4 +1,5 @@
 -- Readers go on: a token takes a byte at least, a term too, and a declaration five with its parenthesis.
+use Rattle.token.specs.declared.Class.{Class}
 use mathlib.Core.Path.{◌≡◌, refl, ap}
 use mathlib.Core.List.{List}
 use mathlib.Core.Option.{Option, none, some}
@@ -101,7 +102,7 @@ module _ (E : Edition) (within : (s : List ℕ) (at : ℕ) → Within at (length
     store_moves : (t : Tree Label) → Moves 0 (store (beginning E s) (closing (E.tokens s)) limit t)
     unfolding store
     store_moves t p q a e =
-        after_elim (require (ltb p.rows limit) (nowhere 8) p) (λ _. move_to (record { offset = p.offset; rows = suc p.rows }) >> pure t) a q e
+        after_elim (require (ltb p.rows limit) (nowhere Class.SurfaceFull) p) (λ _. move_to (record { offset = p.offset; rows = suc p.rows }) >> pure t) a q e
         (λ u v f e₁. let i : p.offset ≡ q.offset = ap (λ (z : Position). z.offset) (done_inj e₁).1 in omega arith)
 
     finish_moves : (k : ℕ → Reader (Forest Label)) → ((n : ℕ) → Moves 0 (k n)) → (b : Beginning) → Moves 0 (finish (beginning E s) (closing (E.tokens s)) limit k b)

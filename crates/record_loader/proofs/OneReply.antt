@@ -2,7 +2,7 @@
 use mathlib.Core.Path.{◌≡◌, refl, sym, ap, ◌∙◌}
 use lib.ListN.{length}
 use Rattle.terms.specs.Rows.{pad}
-use Rattle.surface.specs.declared.Answer.{Answer}
+use Rattle.surface.specs.Answer.{Answer}
 use Rattle.surface.specs.Tables.{Tables, tables, Left, leaves}
 use Rattle.binding.proofs.Statements as binding
 use Rattle.printing.specs.PrintCall.{PrintLeft}

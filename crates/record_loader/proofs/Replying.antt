@@ -8,7 +8,7 @@ use lib.Seq.{take_all, length-take-le}
 use Rattle.terms.specs.Label as D
 use Rattle.terms.specs.Rows.{pad}
 use Rattle.terms.proofs.Tables.{length_pad}
-use Rattle.surface.specs.declared.Answer.{Answer}
+use Rattle.surface.specs.Answer.{Answer}
 use Rattle.surface.specs.Reader.{start, Result}
 use Rattle.surface.specs.Tables.{Lengths, Tables, tables, lengths, Left, leaves}
 use Rattle.surface.specs.Loading.{Outcome, outcome, parsing, loading, load}

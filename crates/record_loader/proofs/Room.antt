@@ -1,5 +1,6 @@
 -- Room for 13,107 declarations is room enough: with more, reading and loading give the same, since a declaration takes five bytes at least and
 -- a source of more than 65,535 is refused.
+use Rattle.token.specs.declared.Class.{Class}
 use mathlib.Core.Path.{◌≡◌, refl, sym, ap, subst}
 use mathlib.Core.List.{List, [], ◌∷◌}
 use mathlib.Core.Bool.{Bool, true, false, not}
@@ -8,9 +9,8 @@ use native.Mathlib.Omega.{arith}
 use lib.Dec.{leb, eqb}
 use lib.ListN.{length}
 use borrow.Author.Tests.{leb-true}
-use Rattle.token.specs.Token.{next_token}
+use Rattle.token.specs.Token.{next_token, Lexed}
 use Rattle.token.specs.declared.TokenKind.{TokenKind}
-use Rattle.token.specs.declared.Lexed.{Lexed}
 use Rattle.token.proofs.Bounds.{bounds, Within}
 use Rattle.token.specs.declared.Token.{Token}
 use Rattle.token.specs.declared.Refusal.{Refusal}
@@ -66,7 +66,7 @@ module _ (E : Edition) (within : (s : List ℕ) (at : ℕ) → Within at (length
   unfolding declarations onwards ending
   at_most zero p q ds e = after_elim (token (E.tokens s) p) _ ds q e (λ t v f e₁. by_kind t v t.kind e₁)
     where
-      by_kind : (t : Token) (v : Position) (k : TokenKind) → onwards E s whole_term (name E s) is_end (refuse (nowhere 9)) t k v ≡ done ds q → length ds ≤ 0
+      by_kind : (t : Token) (v : Position) (k : TokenKind) → onwards E s whole_term (name E s) is_end (refuse (nowhere Class.DeclarationsFull)) t k v ≡ done ds q → length ds ≤ 0
       by_kind t v TokenKind.LParen e = no_done e
       by_kind t v TokenKind.RParen e = no_done e
       by_kind t v TokenKind.Atom e = no_done e
@@ -113,25 +113,25 @@ module _ (s : List ℕ) (z : Lengths) where
   pub parsing_same : (a b : ℕ) → 65535 ≤ a → a ≤ b → parsing s (with_words z a) start ≡ parsing s (with_words z b) start
   unfolding parsing
   parsing_same a b h l =
-      require_same (leb 16384 z.work) (nowhere 11) start _ _ (λ e₁.
-      require_same (leb (length s) 65535) (nowhere 6) start _ _ (λ e₂.
-      require_same (eqb (valid_length s) (length s)) (at_offset 1 (valid_length s)) start _ _ (λ e₃.
-      require_same (not (byte_order_mark s)) (at_offset 1 0) start _ _ (λ e₄.
+      require_same (leb 16384 z.work) (nowhere Class.WorkShort) start _ _ (λ e₁.
+      require_same (leb (length s) 65535) (nowhere Class.LongSource) start _ _ (λ e₂.
+      require_same (eqb (valid_length s) (length s)) (at_offset Class.Malformed (valid_length s)) start _ _ (λ e₃.
+      require_same (not (byte_order_mark s)) (at_offset Class.Malformed 0) start _ _ (λ e₄.
       module_same s (z.surface / 8) frame_limit (a / 5) (b / 5) start (leb-true (length s) 65535 e₂) (omega arith) (omega arith)))))
 
   pub parsing_few : (q : Position) (ds : List Declaration) → parsing s z start ≡ done ds q → length ds ≤ z.declarations / 5
   unfolding parsing
   parsing_few q ds e =
-      require_elim (leb 16384 z.work) (nowhere 11) start _ ds q e (λ _ e₁.
-      require_elim (leb (length s) 65535) (nowhere 6) start _ ds q e₁ (λ _ e₂.
-      require_elim (eqb (valid_length s) (length s)) (at_offset 1 (valid_length s)) start _ ds q e₂ (λ _ e₃.
-      require_elim (not (byte_order_mark s)) (at_offset 1 0) start _ ds q e₃ (λ _ e₄.
+      require_elim (leb 16384 z.work) (nowhere Class.WorkShort) start _ ds q e (λ _ e₁.
+      require_elim (leb (length s) 65535) (nowhere Class.LongSource) start _ ds q e₁ (λ _ e₂.
+      require_elim (eqb (valid_length s) (length s)) (at_offset Class.Malformed (valid_length s)) start _ ds q e₂ (λ _ e₃.
+      require_elim (not (byte_order_mark s)) (at_offset Class.Malformed 0) start _ ds q e₃ (λ _ e₄.
       module_few s (z.surface / 8) frame_limit (z.declarations / 5) start q ds e₄))))
 
   pub loading_same : (a b : ℕ) → 65535 ≤ a → a ≤ b → loading s (with_words z a) start ≡ loading s (with_words z b) start
   unfolding loading reading
   loading_same a b h l =
-      ap (λ r. after (after r (λ ds p. after (require (leb p.rows (z.core / 8)) (nowhere 10) p) (λ _. pure ds))) (λ ds p. after (accept (first_refused s [] ds) p) (λ _. pure ds)))
+      ap (λ r. after (after r (λ ds p. after (require (leb p.rows (z.core / 8)) (nowhere Class.CoreShort) p) (λ _. pure ds))) (λ ds p. after (accept (first_refused s [] ds) p) (λ _. pure ds)))
       (parsing_same a b h l)
 
   pub loading_few : (q : Position) (ds : List Declaration) → loading s z start ≡ done ds q → length ds ≤ z.declarations / 5
@@ -141,5 +141,5 @@ module _ (s : List ℕ) (z : Lengths) where
       after_elim (accept (first_refused s [] ds₁) q₁) _ ds q e₁ (λ u q₂ f₂ e₂.
       subst (λ (l : List Declaration). length l ≤ z.declarations / 5) (done_inj e₂).0
       (after_elim (parsing s z start) _ ds₁ q₁ f₁ (λ ds₃ q₃ f₃ e₃.
-      require_elim (leb q₃.rows (z.core / 8)) (nowhere 10) q₃ _ ds₁ q₁ e₃ (λ _ e₄.
+      require_elim (leb q₃.rows (z.core / 8)) (nowhere Class.CoreShort) q₃ _ ds₁ q₁ e₃ (λ _ e₄.
       subst (λ (l : List Declaration). length l ≤ z.declarations / 5) (done_inj e₄).0 (parsing_few q₃ ds₃ f₃))))))

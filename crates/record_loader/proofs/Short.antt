@@ -9,7 +9,6 @@ use lib.ListN.{length, take}
 use lib.Seq.{take_all, length-take-le}
 use borrow.Author.Tests.{ltb-true, ltb-false}
 use Rattle.terms.specs.Rows.{pad}
-use Rattle.surface.specs.declared.Answer.{Answer}
 use Rattle.surface.specs.Tables.{Tables, tables}
 use Rattle.records.specs.Records.{word_limit}
 use Rattle.records.proofs.Whole.{limit_below, limit_above}

@@ -1,18 +1,18 @@
 -- The questions to a source or to a core text: what a call with such tables and such a text buffer before it answers and leaves, a clause for
 -- each question.
-use Rattle.std.specs.Prelude.{◌≡◌, List, [], ℕ, length, take}
+use Rattle.token.specs.declared.Class.{Class}
+use Rattle.std.specs.Prelude.{◌≡◌, List, [], ℕ, length, take, Err}
 use Rattle.terms.specs.Rows.{pad}
-use Rattle.surface.specs.declared.Answer.{Answer}
+use Rattle.surface.specs.Answer.{Answer}
 use Rattle.surface.specs.Reader.{nowhere}
 use Rattle.surface.specs.Tables.{Tables, tables}
 use Rattle.surface.specs.Loading.{Loads}
-use Rattle.dependence.specs.declared.Dependence.{Dependence}
+use Rattle.dependence.specs.Answer.{Dependence}
 use Rattle.dependence.specs.Asks.{Asks}
-use Rattle.binding.specs.declared.Binding.{Binding}
+use Rattle.binding.specs.Answer.{Binding}
 use Rattle.binding.specs.Binds.{AsksBinder}
-use Rattle.reader.specs.declared.ModuleRead.{ModuleRead}
 use Rattle.loader.specs.Parsed.{Parses}
-use Rattle.printing.specs.declared.Printed.{Printed}
+use Rattle.printing.specs.Answer.{Printed}
 use Rattle.printing.specs.PrintCall.{Prints}
 use Rattle.core_module.specs.CoreText.{ReadsCore, ReadsCanonical}
 use Rattle.record_loader.specs.declared.Question.{Question}
@@ -21,50 +21,50 @@ use Rattle.record_loader.specs.declared.Reply.{Reply}
 -- The answer that a reply holds, where it is of this kind; of a reply of another kind nothing is asked.
 abbrev pub loaded_of : Reply → Answer
 loaded_of (Reply.Loaded r) = r
-loaded_of (Reply.Parsed r) = Answer.Refused (nowhere 0)
-loaded_of (Reply.Depends r) = Answer.Refused (nowhere 0)
-loaded_of (Reply.Bound r) = Answer.Refused (nowhere 0)
-loaded_of (Reply.Printed r) = Answer.Refused (nowhere 0)
-loaded_of (Reply.Read r) = Answer.Refused (nowhere 0)
+loaded_of (Reply.Parsed r) = Err (nowhere Class.Malformed)
+loaded_of (Reply.Depends r) = Err (nowhere Class.Malformed)
+loaded_of (Reply.Bound r) = Err (nowhere Class.Malformed)
+loaded_of (Reply.Printed r) = Err (nowhere Class.Malformed)
+loaded_of (Reply.Read r) = Err (nowhere Class.Malformed)
 
-abbrev pub parsed_of : Reply → ModuleRead
-parsed_of (Reply.Loaded r) = ModuleRead.Refused (nowhere 0)
+abbrev pub parsed_of : Reply → Answer
+parsed_of (Reply.Loaded r) = Err (nowhere Class.Malformed)
 parsed_of (Reply.Parsed r) = r
-parsed_of (Reply.Depends r) = ModuleRead.Refused (nowhere 0)
-parsed_of (Reply.Bound r) = ModuleRead.Refused (nowhere 0)
-parsed_of (Reply.Printed r) = ModuleRead.Refused (nowhere 0)
-parsed_of (Reply.Read r) = ModuleRead.Refused (nowhere 0)
+parsed_of (Reply.Depends r) = Err (nowhere Class.Malformed)
+parsed_of (Reply.Bound r) = Err (nowhere Class.Malformed)
+parsed_of (Reply.Printed r) = Err (nowhere Class.Malformed)
+parsed_of (Reply.Read r) = Err (nowhere Class.Malformed)
 
 abbrev pub dependence_of : Reply → Dependence
-dependence_of (Reply.Loaded r) = Dependence.Refused (nowhere 0)
-dependence_of (Reply.Parsed r) = Dependence.Refused (nowhere 0)
+dependence_of (Reply.Loaded r) = Err (nowhere Class.Malformed)
+dependence_of (Reply.Parsed r) = Err (nowhere Class.Malformed)
 dependence_of (Reply.Depends r) = r
-dependence_of (Reply.Bound r) = Dependence.Refused (nowhere 0)
-dependence_of (Reply.Printed r) = Dependence.Refused (nowhere 0)
-dependence_of (Reply.Read r) = Dependence.Refused (nowhere 0)
+dependence_of (Reply.Bound r) = Err (nowhere Class.Malformed)
+dependence_of (Reply.Printed r) = Err (nowhere Class.Malformed)
+dependence_of (Reply.Read r) = Err (nowhere Class.Malformed)
 
 abbrev pub bound_of : Reply → Binding
-bound_of (Reply.Loaded r) = Binding.Refused (nowhere 0)
-bound_of (Reply.Parsed r) = Binding.Refused (nowhere 0)
-bound_of (Reply.Depends r) = Binding.Refused (nowhere 0)
+bound_of (Reply.Loaded r) = Err (nowhere Class.Malformed)
+bound_of (Reply.Parsed r) = Err (nowhere Class.Malformed)
+bound_of (Reply.Depends r) = Err (nowhere Class.Malformed)
 bound_of (Reply.Bound r) = r
-bound_of (Reply.Printed r) = Binding.Refused (nowhere 0)
-bound_of (Reply.Read r) = Binding.Refused (nowhere 0)
+bound_of (Reply.Printed r) = Err (nowhere Class.Malformed)
+bound_of (Reply.Read r) = Err (nowhere Class.Malformed)
 
 abbrev pub printed_of : Reply → Printed
-printed_of (Reply.Loaded r) = Printed.Refused (nowhere 0)
-printed_of (Reply.Parsed r) = Printed.Refused (nowhere 0)
-printed_of (Reply.Depends r) = Printed.Refused (nowhere 0)
-printed_of (Reply.Bound r) = Printed.Refused (nowhere 0)
+printed_of (Reply.Loaded r) = Err (nowhere Class.Malformed)
+printed_of (Reply.Parsed r) = Err (nowhere Class.Malformed)
+printed_of (Reply.Depends r) = Err (nowhere Class.Malformed)
+printed_of (Reply.Bound r) = Err (nowhere Class.Malformed)
 printed_of (Reply.Printed r) = r
-printed_of (Reply.Read r) = Printed.Refused (nowhere 0)
+printed_of (Reply.Read r) = Err (nowhere Class.Malformed)
 
 abbrev pub read_of : Reply → Answer
-read_of (Reply.Loaded r) = Answer.Refused (nowhere 0)
-read_of (Reply.Parsed r) = Answer.Refused (nowhere 0)
-read_of (Reply.Depends r) = Answer.Refused (nowhere 0)
-read_of (Reply.Bound r) = Answer.Refused (nowhere 0)
-read_of (Reply.Printed r) = Answer.Refused (nowhere 0)
+read_of (Reply.Loaded r) = Err (nowhere Class.Malformed)
+read_of (Reply.Parsed r) = Err (nowhere Class.Malformed)
+read_of (Reply.Depends r) = Err (nowhere Class.Malformed)
+read_of (Reply.Bound r) = Err (nowhere Class.Malformed)
+read_of (Reply.Printed r) = Err (nowhere Class.Malformed)
 read_of (Reply.Read r) = r
 
 -- A reply is of the question's kind.

@@ -1,6 +1,6 @@
 -- Statements about calls of `ask_records`, each as a type; record_loader/proofs/Statements.antt has a proof of each.
-use Rattle.std.specs.Prelude.{◌≡◌, ◌↔◌, ◌⊎◌, List, [], ℕ, ◌≤◌, length, take}
-use Rattle.surface.specs.declared.Answer.{Answer}
+use Rattle.std.specs.Prelude.{◌≡◌, ◌↔◌, ◌⊎◌, List, [], ℕ, ◌≤◌, length, take, Ok}
+use Rattle.surface.specs.Answer.{Answer}
 use Rattle.surface.specs.Reader.{start}
 use Rattle.surface.specs.Tables.{Each, Tables, tables, lengths, in_words, leaves}
 use Rattle.surface.specs.Reports.{Report, report}
@@ -13,7 +13,6 @@ use Rattle.dependence.specs.Statements.{asking_reports}
 use Rattle.binding.specs.Binds.{report_binding}
 use Rattle.binding.specs.Statements.{BindingReports}
 use Rattle.loader.specs.Parsed.{report_read}
-use Rattle.printing.specs.declared.Printed.{Printed}
 use Rattle.printing.specs.PrintCall.{print, report_printed}
 use Rattle.core_module.specs.CoreText.{reading_text, reading_canonical, ReadsCore, ReadsCanonical}
 use Rattle.core_module.specs.SameText.{SameText}
@@ -53,7 +52,7 @@ RoundTripRecords =
     (s : List ℕ) (before₁ : Lent) (text₁ : List ℕ) (a : Answer) (after₁ : Lent) (left₁ : List ℕ)
     → Replies s Question.Load (worded before₁) text₁ (Reply.Loaded a) (worded after₁) left₁ → Accepts (leaves a (worded after₁))
     → (before₂ : Lent) (buffer : List ℕ) (n : ℕ) (after₂ : Lent) (text : List ℕ)
-    → Replies s Question.Print (worded before₂) buffer (Reply.Printed (Printed.Text n)) (worded after₂) text
+    → Replies s Question.Print (worded before₂) buffer (Reply.Printed (Ok n)) (worded after₂) text
     → (lent : Lent) (other : List ℕ) (b : Answer) (left : Lent) (other₁ : List ℕ) → Roomy (row_count a) (declaration_count a) (for_text (worded lent))
     → Replies (take n text) Question.ReadCore (worded lent) other (Reply.Read b) (worded left) other₁
     ⊎ Replies (take n text) Question.ReadCanonical (worded lent) other (Reply.Read b) (worded left) other₁

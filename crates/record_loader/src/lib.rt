@@ -7,12 +7,10 @@ ghost use Rattle.surface.specs.Tables.{tables};
 ghost use Rattle.record_loader.specs.Recorded.{list_words, front};
 ghost use Rattle.record_loader.specs.Replies.{Replies};
 
-use binding::Binding;
-use dependence::Dependence;
-use printing::Printed;
-use reader::ModuleRead;
+use binding::Binder;
 use records::Declaration;
-use surface::Answer;
+use surface::Loaded;
+use token::Refusal;
 
 #[derive(Clone, Copy)]
 pub enum Question {
@@ -27,12 +25,12 @@ pub enum Question {
 
 #[derive(Clone, Copy)]
 pub enum Reply {
-    Loaded(Answer),
-    Parsed(ModuleRead),
-    Depends(Dependence),
-    Printed(Printed),
-    Read(Answer),
-    Bound(Binding),
+    Loaded(Result<Loaded, Refusal>),
+    Parsed(Result<Loaded, Refusal>),
+    Depends(Result<Option<usize>, Refusal>),
+    Printed(Result<usize, Refusal>),
+    Read(Result<Loaded, Refusal>),
+    Bound(Result<Binder, Refusal>),
 }
 
 // Asks with as many words for the declarations as a list of so many records takes.

@@ -7,8 +7,7 @@ use native.Mathlib.Omega.{arith}
 use lib.Dec.{ltb}
 use lib.ListN.{length}
 use borrow.Author.Tests.{ltb-true, lt-ltb, le-ltb}
-use Rattle.records.specs.declared.Declaration.{Declaration}
-use Rattle.records.specs.Records.{blank, five_words, record_at, set_five, record_put, word_limit}
+use Rattle.records.specs.Records.{blank, five_words, record_at, word_limit}
 
 pub at_whole : (t : List ℕ) (k : ℕ) → k < length t / 5 → five_words t (k * 5) ≡ record_at t k
 unfolding record_at
@@ -17,14 +16,6 @@ at_whole t k h = sym (ap (λ b. cond b (five_words t (k * 5)) blank) (lt-ltb k (
 pub at_behind : (t : List ℕ) (k : ℕ) → length t / 5 ≤ k → blank ≡ record_at t k
 unfolding record_at
 at_behind t k h = sym (ap (λ b. cond b (five_words t (k * 5)) blank) (le-ltb k (length t / 5) h))
-
-pub put_whole : (t : List ℕ) (k : ℕ) (d : Declaration) → k < length t / 5 → set_five t (k * 5) d ≡ record_put t k d
-unfolding record_put
-put_whole t k d h = sym (ap (λ b. cond b (set_five t (k * 5) d) t) (lt-ltb k (length t / 5) h))
-
-pub put_behind : (t : List ℕ) (k : ℕ) (d : Declaration) → length t / 5 ≤ k → t ≡ record_put t k d
-unfolding record_put
-put_behind t k d h = sym (ap (λ b. cond b (set_five t (k * 5) d) t) (le-ltb k (length t / 5) h))
 
 pub limit_below : (count words : ℕ) → count < words / 5 → count * 5 ≡ word_limit count words
 unfolding word_limit

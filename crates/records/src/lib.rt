@@ -7,7 +7,7 @@ ghost use Rattle.records.specs.Records.{blank, record_at, record_put, records_of
 
 // The five words of a declaration record.
 #[repr(C)]
-#[derive(Clone, Copy)]
+#[derive(Clone, Copy, Debug, Default, PartialEq, Eq)]
 pub struct Declaration {
     pub kind: u32,
     pub name_start: u32,
@@ -20,16 +20,11 @@ pub struct Declaration {
 pub fn no_declaration() -> Declaration
     ensures { result ≡ blank }
 {
-    Declaration {
-        kind: 0,
-        name_start: 0,
-        name_length: 0,
-        type_row: 0,
-        body_row: 0,
-    }
+    Declaration::default()
 }
 
 // Record k of a table of words; a blank behind the last whole record.
+#[tactic(auto, unfolding(crate::specs::Records::record_at))]
 pub fn record_at(words: &[u32], k: usize) -> Declaration
     ensures { result ≡ record_at words.now k }
 {
@@ -47,6 +42,7 @@ pub fn record_at(words: &[u32], k: usize) -> Declaration
 }
 
 // The words of record k are set to a record's fields, where the table has them.
+#[tactic(auto, unfolding(crate::specs::Records::record_put))]
 pub fn put_record(words: &mut [u32], k: usize, d: Declaration)
     ensures { words.new ≡ record_put words.old k d }
 {
@@ -61,6 +57,7 @@ pub fn put_record(words: &mut [u32], k: usize, d: Declaration)
 }
 
 // How many words of a table a list of so many records takes; all of them where there is no room for so many.
+#[tactic(auto, unfolding(crate::specs::Records::word_limit))]
 pub fn word_limit(count: usize, words: usize) -> usize
     ensures { result ≡ word_limit count words }
 {
@@ -74,17 +71,7 @@ pub fn word_limit(count: usize, words: usize) -> usize
 pub fn declaration_at(list: &[Declaration], k: usize) -> Declaration
     ensures { result ≡ get_or list.now k blank }
 {
-    if k < list.len() {
-        list[k]
-    } else {
-        Declaration {
-            kind: 0,
-            name_start: 0,
-            name_length: 0,
-            type_row: 0,
-            body_row: 0,
-        }
-    }
+    list.get(k).copied().unwrap_or_default()
 }
 
 // Writes one record; past the end nothing.
@@ -97,25 +84,21 @@ pub fn put_declaration(list: &mut [Declaration], k: usize, d: Declaration)
 }
 
 // Sets each record of the list to what the table of words has at its place.
+#[tactic(auto, using(crate::proofs::Written::written_next), unfolding(crate::specs::Records::records_from))]
 pub fn write_records(words: &[u32], list: &mut [Declaration])
     ensures { list.new ≡ records_of words.now (length list.old) }
 {
-    let mut k = 0;
-    while k < list.len() {
-        let d = record_at(words, k);
-        put_declaration(list, k, d);
-        k += 1;
+    for (k, place) in list.iter_mut().enumerate() {
+        *place = record_at(words, k);
     }
 }
 
 // Sets the words of each record, for callers that have no such list.
+#[tactic(auto, using(crate::proofs::Worded::worded_next), unfolding(crate::specs::Records::words_of))]
 pub fn write_words(list: &[Declaration], words: &mut [u32])
     ensures { words.new ≡ words_of list.now 0 words.old }
 {
-    let mut k = 0;
-    while k < list.len() {
-        let d = declaration_at(list, k);
-        put_record(words, k, d);
-        k += 1;
+    for (k, d) in list.iter().enumerate() {
+        put_record(words, k, *d);
     }
 }

@@ -3,6 +3,7 @@
 
 ghost use Rattle.std.specs.Prelude.{◌≡◌, [], ◌∷◌, ◌++◌};
 ghost use Rattle.dependence.specs.Asks.{report_dependence};
+ghost use Rattle.token.specs.Refusals.{number};
 ghost use Rattle.surface.specs.Reports.{offsets, report_refusal, report, token_number, report_token};
 ghost use Rattle.loader.specs.Parsed.{report_read};
 ghost use Rattle.binding.specs.Binds.{report_binding};
@@ -12,16 +13,13 @@ ghost use Rattle.printing.specs.PrintCall.{report_printed};
 ghost use Rattle.same.specs.Comparison.{report_comparison};
 ghost use Rattle.reports.specs.Numbers.{numbers, words, told, report_listed};
 
-use binding::Binding;
-use dependence::Dependence;
-use least_storage::Storage;
+use binding::Binder;
+use least_storage::Needs;
 use lister::Listed;
-use module_name::ModuleName;
-use printing::Printed;
-use reader::ModuleRead;
-use same::Comparison;
-use surface::Answer;
-use token::{Lexed, Place, Refusal, TokenKind};
+use module_name::Span;
+use same::Unloaded;
+use surface::Loaded;
+use token::{Refusal, Token, TokenKind};
 
 // What a call answers; then how many values follow, and these, and 0 behind them.
 #[derive(Clone, Copy)]
@@ -36,23 +34,47 @@ pub struct Numbers {
 fn report_refusal(refusal: Refusal) -> Numbers
     ensures { result ≡ numbers (report_refusal refusal) }
 {
-    let number = refusal.class;
+    let number = refusal.class.number();
     let place = refusal.place;
     match place {
-        Place::At(at) => Numbers {
+        Some(at) => Numbers {
             number,
             count: 1,
             first: at as u64,
             second: 0,
             third: 0,
         },
-        Place::Nowhere => Numbers {
+        None => Numbers {
             number,
             count: 0,
             first: 0,
             second: 0,
             third: 0,
         },
+    }
+}
+
+fn report_none() -> Numbers
+    ensures { result ≡ numbers (record { number = 0; values = [] }) }
+{
+    Numbers {
+        number: 0,
+        count: 0,
+        first: 0,
+        second: 0,
+        third: 0,
+    }
+}
+
+fn report_one(first: usize) -> Numbers
+    ensures { result ≡ numbers (record { number = 0; values = first ∷ [] }) }
+{
+    Numbers {
+        number: 0,
+        count: 1,
+        first: first as u64,
+        second: 0,
+        third: 0,
     }
 }
 
@@ -68,124 +90,97 @@ fn report_two(first: usize, second: usize) -> Numbers
     }
 }
 
-pub fn report_loaded(answer: Answer) -> Numbers
+pub fn report_loaded(answer: Result<Loaded, Refusal>) -> Numbers
     ensures { result ≡ numbers (report answer) }
 {
     match answer {
-        Answer::Loaded { rows, declarations } => report_two(rows, declarations),
-        Answer::Refused(refusal) => report_refusal(refusal),
+        Ok(Loaded { rows, declarations }) => report_two(rows, declarations),
+        Err(refusal) => report_refusal(refusal),
     }
 }
 
-pub fn report_read(answer: ModuleRead) -> Numbers
+pub fn report_read(answer: Result<Loaded, Refusal>) -> Numbers
     ensures { result ≡ numbers (report_read answer) }
 {
     match answer {
-        ModuleRead::Done { rows, declarations } => report_two(rows, declarations),
-        ModuleRead::Refused(refusal) => report_refusal(refusal),
+        Ok(read) => report_two(read.rows, read.declarations),
+        Err(refusal) => report_refusal(refusal),
     }
 }
 
 // Printing: the length of the text.
-pub fn report_printed(answer: Printed) -> Numbers
+pub fn report_printed(answer: Result<usize, Refusal>) -> Numbers
     ensures { result ≡ numbers (report_printed answer) }
 {
     match answer {
-        Printed::Text { length } => Numbers {
-            number: 0,
-            count: 1,
-            first: length as u64,
-            second: 0,
-            third: 0,
-        },
-        Printed::Refused(refusal) => report_refusal(refusal),
+        Ok(length) => report_one(length),
+        Err(refusal) => report_refusal(refusal),
     }
 }
 
-pub fn report_dependence(answer: Dependence) -> Numbers
+// Dependence: the row of a yes, and nothing for a no.
+pub fn report_dependence(answer: Result<Option<usize>, Refusal>) -> Numbers
     ensures { result ≡ numbers (report_dependence answer) }
 {
     match answer {
-        Dependence::Yes { row } => Numbers {
-            number: 0,
-            count: 1,
-            first: row as u64,
-            second: 0,
-            third: 0,
-        },
-        Dependence::No => Numbers {
-            number: 0,
-            count: 0,
-            first: 0,
-            second: 0,
-            third: 0,
-        },
-        Dependence::Refused(refusal) => report_refusal(refusal),
+        Ok(Some(row)) => report_one(row),
+        Ok(None) => report_none(),
+        Err(refusal) => report_refusal(refusal),
     }
 }
 
 // What binds a reference: the count and the row for a local, the place for a global.
-pub fn report_binding(answer: Binding) -> Numbers
+pub fn report_binding(answer: Result<Binder, Refusal>) -> Numbers
     ensures { result ≡ numbers (report_binding answer) }
 {
     match answer {
-        Binding::Local { count, row } => report_two(count, row),
-        Binding::Global { place } => Numbers {
-            number: 0,
-            count: 1,
-            first: place as u64,
-            second: 0,
-            third: 0,
-        },
-        Binding::Refused(refusal) => report_refusal(refusal),
+        Ok(Binder::Local { count, row }) => report_two(count, row),
+        Ok(Binder::Global { place }) => report_one(place),
+        Err(refusal) => report_refusal(refusal),
     }
 }
 
 // The module's name: where it starts, and its length.
-pub fn report_module_name(answer: ModuleName) -> Numbers
+pub fn report_module_name(answer: Result<Span, Refusal>) -> Numbers
     ensures { result ≡ numbers (report_module_name answer) }
 {
     match answer {
-        ModuleName::Named { start, length } => report_two(start, length),
-        ModuleName::Refused(refusal) => report_refusal(refusal),
+        Ok(name) => report_two(name.start, name.length),
+        Err(refusal) => report_refusal(refusal),
     }
 }
 
 // What a source needs: rows, declarations, open frames.
-pub fn report_storage(answer: Storage) -> Numbers
+pub fn report_storage(answer: Result<Needs, Refusal>) -> Numbers
     ensures { result ≡ numbers (report_storage answer) }
 {
     match answer {
-        Storage::Needs {
-            rows,
-            declarations,
-            frames,
-        } => Numbers {
+        Ok(needs) => Numbers {
             number: 0,
             count: 3,
-            first: rows as u64,
-            second: declarations as u64,
-            third: frames as u64,
+            first: needs.rows as u64,
+            second: needs.declarations as u64,
+            third: needs.frames as u64,
         },
-        Storage::Refused(refusal) => report_refusal(refusal),
+        Err(refusal) => report_refusal(refusal),
     }
 }
 
 // Which of two sources is refused, and the refusal's offset if it has one.
 fn report_which(which: u64, refusal: Refusal) -> Numbers
-    ensures { result ≡ numbers (record { number = refusal.class; values = which ∷ offsets refusal.place }) }
+    ensures { result ≡ numbers (record { number = number refusal.class; values = which ∷ offsets refusal.place }) }
 {
-    let number = refusal.class;
+    let number = refusal.class.number();
     let place = refusal.place;
     match place {
-        Place::At(at) => Numbers {
+        Some(at) => Numbers {
             number,
             count: 2,
             first: which,
             second: at as u64,
             third: 0,
         },
-        Place::Nowhere => Numbers {
+        None => Numbers {
             number,
             count: 1,
             first: which,
@@ -195,43 +190,32 @@ fn report_which(which: u64, refusal: Refusal) -> Numbers
     }
 }
 
-pub fn report_comparison(answer: Comparison) -> Numbers
+// The same core: the place where the two part, or which source is refused.
+pub fn report_comparison(answer: Result<Option<usize>, Unloaded>) -> Numbers
     ensures { result ≡ numbers (report_comparison answer) }
 {
     match answer {
-        Comparison::Same => Numbers {
-            number: 0,
-            count: 0,
-            first: 0,
-            second: 0,
-            third: 0,
-        },
-        Comparison::Different { declaration } => Numbers {
-            number: 0,
-            count: 1,
-            first: declaration as u64,
-            second: 0,
-            third: 0,
-        },
-        Comparison::FirstRefused(refusal) => report_which(1, refusal),
-        Comparison::SecondRefused(refusal) => report_which(2, refusal),
+        Ok(None) => report_none(),
+        Ok(Some(declaration)) => report_one(declaration),
+        Err(Unloaded::First(refusal)) => report_which(1, refusal),
+        Err(Unloaded::Second(refusal)) => report_which(2, refusal),
     }
 }
 
 fn report_refused_text(refusal: Refusal, length: u64) -> Numbers
-    ensures { result ≡ numbers (record { number = refusal.class; values = offsets refusal.place ++ (length ∷ []) }) }
+    ensures { result ≡ numbers (record { number = number refusal.class; values = offsets refusal.place ++ (length ∷ []) }) }
 {
-    let number = refusal.class;
+    let number = refusal.class.number();
     let place = refusal.place;
     match place {
-        Place::At(offset) => Numbers {
+        Some(offset) => Numbers {
             number,
             count: 2,
             first: offset as u64,
             second: length,
             third: 0,
         },
-        Place::Nowhere => Numbers {
+        None => Numbers {
             number,
             count: 1,
             first: length,
@@ -248,14 +232,14 @@ pub fn report_listed(listed: Listed) -> Numbers
     let length = listed.length as u64;
     let answer = listed.answer;
     match answer {
-        Answer::Loaded { rows, declarations } => Numbers {
+        Ok(Loaded { rows, declarations }) => Numbers {
             number: 0,
             count: 3,
             first: rows as u64,
             second: declarations as u64,
             third: length,
         },
-        Answer::Refused(refusal) => report_refused_text(refusal, length),
+        Err(refusal) => report_refused_text(refusal, length),
     }
 }
 
@@ -271,11 +255,11 @@ fn token_number(kind: TokenKind) -> u64
     }
 }
 
-pub fn report_token(lexed: Lexed) -> Numbers
+pub fn report_token(lexed: Result<Token, Refusal>) -> Numbers
     ensures { result ≡ numbers (report_token lexed) }
 {
     match lexed {
-        Lexed::Got(t) => {
+        Ok(t) => {
             let kind = t.kind;
             Numbers {
                 number: 0,
@@ -285,7 +269,7 @@ pub fn report_token(lexed: Lexed) -> Numbers
                 third: t.end as u64,
             }
         }
-        Lexed::Refused(refusal) => report_refusal(refusal),
+        Err(refusal) => report_refusal(refusal),
     }
 }
 

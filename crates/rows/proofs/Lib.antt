@@ -1,5 +1,4 @@
 pub mod Arities
 pub mod Words
 pub mod Storing
-pub mod DeclarationRows
 pub mod Covering

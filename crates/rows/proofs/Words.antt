@@ -2,11 +2,10 @@
 use Prim.Native.Nat.{ℕ, zero, suc, ◌≤◌}
 use native.Mathlib.Omega.{arith}
 use mathlib.Core.Path.{◌≡◌, refl, sym, ap, ap₂, ◌∙◌}
-use mathlib.Core.Bool.{Bool, true, false, cond}
-use mathlib.Core.List.{List, [], ◌∷◌, ◌++◌}
+use mathlib.Core.List.{List, [], ◌∷◌}
 use lib.ListN.{length, get_or, take}
 use lib.Seq.{take_all}
-use Rattle.terms.specs.Rows.{pad, row}
+use Rattle.terms.specs.Rows.{pad}
 
 -- n words of a list from word i on, each 0 where there is none.
 abbrev pub words_from : ℕ → ℕ → List ℕ → List ℕ
@@ -47,14 +46,3 @@ module _ (l : List ℕ) (h : length l ≡ 6) (n : ℕ) where
 
   pub all_words : 6 ≤ n → l ≡ pad 6 (take n l)
   all_words k = six l h ∙ sym (ap (pad 6) (take_all n l (omega arith) ∙ six l h))
-
--- A row by its words.
-module _ (k start n : ℕ) (l : List ℕ) (offset : ℕ) where
-  abbrev fields : Bool → List ℕ
-  fields b = row k (cond b (start ∷ n ∷ []) [] ++ l) offset
-
-  pub row_with_span : (b : Bool) → b ≡ true → fields b ≡ k ∷ start ∷ n ∷ words_from 0 4 l ++ (offset ∷ [])
-  row_with_span b e = ap fields e ∙ ap (λ (w : List ℕ). k ∷ start ∷ n ∷ w ++ (offset ∷ [])) (pad_words 4 l)
-
-  pub row_without_span : (b : Bool) → b ≡ false → fields b ≡ k ∷ words_from 0 6 l ++ (offset ∷ [])
-  row_without_span b e = ap fields e ∙ ap (λ (w : List ℕ). k ∷ w ++ (offset ∷ [])) (pad_words 6 l)

@@ -3,7 +3,7 @@
 // The port of `TermFrameKind::arity` and `TermFrame::into_term` in surface/parser.rs. Document 01, "The module read", "The core module".
 #![tactic(auto)]
 
-ghost use Rattle.std.specs.Prelude.{◌≡◌, cond, [], ◌∷◌, ◌++◌, ◌+◌, ◌*◌, get_or, take};
+ghost use Rattle.std.specs.Prelude.{◌≡◌, cond, [], ◌∷◌, ◌++◌, ◌+◌, ◌*◌, ◌<◌, get_or, take};
 ghost use Rattle.terms.specs.Forms.{counts_as, arity_of, holds_span, holds_span_in};
 ghost use Rattle.terms.specs.Label.{part};
 ghost use Rattle.terms.specs.Resolution.{kept, covers};
@@ -30,45 +30,29 @@ const SPANS: u32 = 0b1_0000_0000_0000_0000_1011_1000;
 pub fn core_kind(kind: u32) -> u32
     ensures { result ≡ counts_as kind }
 {
-    if kind == ARROW {
-        return PI;
-    }
-    kind
+    if kind == ARROW { PI } else { kind }
 }
 
 pub fn arity(kind: u32) -> u32
     ensures { result ≡ arity_of kind }
 {
-    let k = core_kind(kind);
-    if k < 3 {
-        return 0;
+    match core_kind(kind) {
+        k @ 3..=24 => ((ARITIES >> (3 * (u64::from(k) - 3))) % 8) as u32,
+        _ => 0,
     }
-    if 24 < k {
-        return 0;
-    }
-    let digit = k as u64 - 3;
-    ((ARITIES >> (3 * digit)) % 8) as u32
 }
 
 pub fn holds_span(kind: u32) -> bool
     ensures { result ≡ holds_span kind }
 {
-    if 24 < kind {
-        return false;
-    }
-    (SPANS >> kind) % 2 == 1
+    kind <= 24 && (SPANS >> kind) % 2 == 1
 }
 
 // Whether a form's binder covers its argument i.
 pub fn covers(kind: u32, i: usize) -> bool
     ensures { result ≡ covers kind i }
 {
-    let k = core_kind(kind);
-    match k {
-        4 | 7 => i == 1,
-        5 => i == 0,
-        _ => false,
-    }
+    matches!((core_kind(kind), i), (4 | 7, 1) | (5, 0))
 }
 
 // The first len arguments, and 0 for the others: one choice for all of them.
@@ -90,39 +74,33 @@ fn first_args(args: [u32; 6], len: u32) -> [u32; 6]
 pub fn row_words(label: Label, span: bool, args: [u32; 6], len: u32) -> [u32; 8]
     ensures { result ≡ row label.kind (cond span (label.start ∷ label.length ∷ []) [] ++ take len args) label.offset }
 {
-    let kind = label.kind;
-    let start = label.start;
-    let length = label.length;
-    let offset = label.offset;
-    let a = first_args(args, len);
+    let Label {
+        kind,
+        start,
+        length,
+        offset,
+    } = label;
+    let [a, b, c, d, e, f] = first_args(args, len);
     if span {
-        return [kind, start, length, a[0], a[1], a[2], a[3], offset];
+        [kind, start, length, a, b, c, d, offset]
+    } else {
+        [kind, a, b, c, d, e, f, offset]
     }
-    [kind, a[0], a[1], a[2], a[3], a[4], a[5], offset]
 }
 
 // Whether a term of core text of each kind has the start and length of a numeral in its row: var, global and universe.
 pub fn holds_numeral(kind: u32) -> bool
     ensures { result ≡ holds_span_in text_forms kind }
 {
-    if kind == 0 {
-        return false;
-    }
-    kind <= 3
+    matches!(kind, 1..=3)
 }
 
 // The row of a term that is kept: only a universe has a span in the core module.
 pub fn core_row(label: Label, args: [u32; 6], len: u32) -> [u32; 8]
     ensures { result ≡ core_words label kept (take len args) }
 {
-    let kind = label.kind;
-    let core = Label {
-        kind: core_kind(kind),
-        start: label.start,
-        length: label.length,
-        offset: label.offset,
-    };
-    row_words(core, kind == 3, args, len)
+    let kind = core_kind(label.kind);
+    row_words(Label { kind, ..label }, label.kind == 3, args, len)
 }
 
 // The row of a var with its count, or of a global with its place, for a reference at an offset.
@@ -139,50 +117,46 @@ pub fn row_offset(table: &[u32], k: u32) -> u32
     word_at(table, k as usize * 8 + 7)
 }
 
-// Stores a row at place k and answers true, or false where the table has no such place.
+// Stores words at place k of a table of places so wide and answers true, or false where the table has no such place.
+#[tactic(auto, using(crate::proofs::Storing::stored_nowhere, crate::proofs::Storing::stored_there))]
+fn store_at<const WIDTH: usize>(table: &mut [u32], k: usize, words: &[u32; WIDTH]) -> bool
+    requires { 0 < WIDTH }
+    ensures value { result ≡ has_place WIDTH table.old k }
+    ensures table_after { table.new ≡ stored_at WIDTH table.old k words.now }
+{
+    let there = k < table.len() / WIDTH;
+    if there {
+        tables::put(table, k * WIDTH, words);
+    }
+    there
+}
+
+// Stores a row.
 pub fn store_row(table: &mut [u32], k: usize, row: [u32; 8]) -> bool
     ensures value { result ≡ has_place 8 table.old k }
     ensures table_after { table.new ≡ stored_at 8 table.old k row }
 {
-    if k < table.len() / 8 {
-        let at = k * 8;
-        tables::put(table, at, &row);
-        return true;
-    }
-    false
+    store_at(table, k, &row)
 }
 
-// The same for a declaration record.
+// Stores a declaration record.
 pub fn store_record(table: &mut [u32], k: usize, record: [u32; 5]) -> bool
     ensures value { result ≡ has_place 5 table.old k }
     ensures table_after { table.new ≡ stored_at 5 table.old k «record» }
 {
-    if k < table.len() / 5 {
-        let at = k * 5;
-        tables::put(table, at, &record);
-        return true;
-    }
-    false
+    store_at(table, k, &record)
 }
 
 // A name or numeral as a part of the source; what runs past the end is cut off.
 pub fn atom(s: &[u8], start: u32, length: u32) -> &[u8]
     ensures { result.now ≡ part s.now start length }
 {
-    let a = start as usize;
-    let n = length as usize;
-    if s.len() <= a {
-        &s[..0]
-    } else {
-        if s.len() - a <= n {
-            &s[a..]
-        } else {
-            &s[a..a + n]
-        }
-    }
+    let rest = s.get(start as usize..).unwrap_or(&[]);
+    rest.get(..length as usize).unwrap_or(rest)
 }
 
 // The row behind those of declaration i. Its body's row is its last, or its type's where there is no body, whose row is then 0.
+#[tactic(auto, unfolding(crate::specs::DeclarationRows::row_behind))]
 pub fn row_behind(declarations: &[u32], i: usize) -> usize
     ensures { result ≡ row_behind declarations.now i }
 {
@@ -191,17 +165,16 @@ pub fn row_behind(declarations: &[u32], i: usize) -> usize
     }
     let type_row = word_at(declarations, i * 5 + 3);
     let body_row = word_at(declarations, i * 5 + 4);
-    if type_row < body_row {
-        return body_row as usize + 1;
-    }
-    type_row as usize + 1
+    type_row.max(body_row) as usize + 1
 }
 
+#[tactic(auto, unfolding(crate::specs::DeclarationRows::first_row))]
 pub fn first_row(declarations: &[u32], i: usize) -> usize
     ensures { result ≡ first_row declarations.now i }
 {
     if i == 0 {
-        return 0;
+        0
+    } else {
+        row_behind(declarations, i - 1)
     }
-    row_behind(declarations, i - 1)
 }

@@ -1,8 +1,7 @@
 -- Declarations that are the same in two pairs of tables, one after the other.
-use Prim.Native.Nat.{ℕ, suc, ◌+◌, ◌*◌, ◌≤◌, ◌<◌}
+use Prim.Native.Nat.{ℕ, suc, min, ◌+◌, ◌*◌, ◌≤◌, ◌<◌}
 use mathlib.Core.Path.{◌≡◌, sym, subst₂}
 use mathlib.Core.List.{List}
-use mathlib.Core.Logic.{◌⊎◌, inl, inr}
 use mathlib.Core.Bool.{Bool, true, false}
 use native.Mathlib.Omega.{arith}
 use native.Mathlib.Decide.{dec_lt}
@@ -54,15 +53,12 @@ module _ (s core₁ declarations₁ t core₂ declarations₂ : List ℕ) where
   unfolding first_row
   one_less k b = record { records = b.records k (omega arith); rows = λ n h l. b.rows n h (omega arith) }
 
+  -- All of the shorter list is the same.
+  pub all_same : (m n k : ℕ) → k ≡ min m n → Before k → FirstDifferent s core₁ declarations₁ t core₂ declarations₂ m n k
+  all_same m n k e b = record { within_first = omega arith; within_second = omega arith; before = b; there = λ p q. absurd (omega arith) }
+
   -- The walk over the declarations: those before k are the same.
   module _ (m n k : ℕ) (h : k ≤ m) (i : k ≤ n) (b : Before k) where
-    pub one_short : (m ≡ k) ⊎ (n ≡ k) → FirstDifferent s core₁ declarations₁ t core₂ declarations₂ m n k
-    one_short e = record { within_first = h; within_second = i; before = b; there = λ p q. absurd (short e p q) }
-      where
-        short : (m ≡ k) ⊎ (n ≡ k) → k < m → k < n → ⊥
-        short (inl f) p q = omega arith
-        short (inr f) p q = omega arith
-
     module _ (r : Bool) (d : Decides r (Declared k)) where
       pub differs : r ≡ false → FirstDifferent s core₁ declarations₁ t core₂ declarations₂ m n k
       differs e = record { within_first = h; within_second = i; before = b; there = λ p q c. fails (Declared k) r d e (one_less k c) }

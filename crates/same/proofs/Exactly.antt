@@ -1,18 +1,19 @@
--- DEMAND 3 in the answer of `same`: `Same` exactly if the two sources agree, `Different k` exactly if they part at k.
+-- DEMAND 3 in the answer of `same`: the same core exactly if the two sources agree, a place k exactly if they part at k.
 use Prim.Native.Nat.{ℕ, zero, suc}
 use mathlib.Core.Path.{◌≡◌, refl, sym, ap, ◌∙◌, subst, subst₂}
 use mathlib.Core.Logic.{inl, inr}
 use mathlib.Core.List.{List, [], ◌∷◌, map}
+use Rattle.std.specs.Prelude.{Ok, Err, Some, None}
 use Rattle.terms.specs.Label.{Declaration, NamedDeclaration, named_declaration}
 use Rattle.terms.specs.Agreement.{AgreeModule}
-use Rattle.surface.specs.declared.Answer.{Answer}
+use Rattle.surface.specs.Answer.{Answer, loaded}
 use Rattle.surface.specs.Grammar.{Derives}
 use Rattle.surface.specs.Loading.{Lengths, load}
 use Rattle.surface.specs.SameCore.{Accepts}
 use Rattle.surface.specs.Agreement.{Agreement}
 use Rattle.surface.proofs.CompleteModule.{unique}
 use Rattle.surface.proofs.Demand.{by_definition}
-use Rattle.same.specs.declared.Comparison.{Comparison}
+use Rattle.same.specs.Answer.{Comparison}
 use Rattle.same.specs.Comparison.{PartAt, Parting, Compares, SameAnswers, Tables, SameAsked, report_comparison}
 use Rattle.same.specs.Statements.{AnswersExactly, SameCoreExactly, OneAnswer, ComparingReports, CompareReports}
 
@@ -56,22 +57,19 @@ module _ (s t : List ℕ) where
 
   -- What is promised for two loaded sources leaves one answer.
   pub one_answer : (a b : Comparison) → Compares s t a → Compares s t b → a ≡ b
-  one_answer Comparison.Same Comparison.Same p q = refl
-  one_answer Comparison.Same (Comparison.Different k) p q = absurd (agree_or_part k p q)
-  one_answer Comparison.Same (Comparison.FirstRefused r) p q = absurd q
-  one_answer Comparison.Same (Comparison.SecondRefused r) p q = absurd q
-  one_answer (Comparison.Different j) Comparison.Same p q = absurd (agree_or_part j q p)
-  one_answer (Comparison.Different j) (Comparison.Different k) p q = ap Comparison.Different (one_parting j k p q)
-  one_answer (Comparison.Different j) (Comparison.FirstRefused r) p q = absurd q
-  one_answer (Comparison.Different j) (Comparison.SecondRefused r) p q = absurd q
-  one_answer (Comparison.FirstRefused r) b p q = absurd p
-  one_answer (Comparison.SecondRefused r) b p q = absurd p
+  one_answer (Ok None) (Ok None) p q = refl
+  one_answer (Ok None) (Ok (Some k)) p q = absurd (agree_or_part k p q)
+  one_answer (Ok None) (Err r) p q = absurd q
+  one_answer (Ok (Some j)) (Ok None) p q = absurd (agree_or_part j q p)
+  one_answer (Ok (Some j)) (Ok (Some k)) p q = ap (λ (k : ℕ). Ok (Some k)) (one_parting j k p q)
+  one_answer (Ok (Some j)) (Err r) p q = absurd q
+  one_answer (Err r) b p q = absurd p
 
   -- The answer is determined, refusals too.
   determined : (b c : Answer) (a d : Comparison) → SameAnswers s t b c a → SameAnswers s t b c d → a ≡ d
-  determined (Answer.Refused r) c a d p q = p ∙ sym q
-  determined (Answer.Loaded m n) (Answer.Refused r) a d p q = p ∙ sym q
-  determined (Answer.Loaded m n) (Answer.Loaded o r) a d p q = one_answer a d p q
+  determined (Err r) c a d p q = p ∙ sym q
+  determined (Ok l) (Err r) a d p q = p ∙ sym q
+  determined (Ok l) (Ok m) a d p q = one_answer a d p q
 
 pub nothing_free : OneAnswer
 nothing_free s t y z a b x w u v p q =
@@ -88,20 +86,19 @@ answers_exactly s t y z a x w p f g b =
 pub same_core_exactly : SameCoreExactly
 same_core_exactly s t y z a x w p f g =
     let d = by_definition s t y z f g in
-    let h = answers_exactly s t y z a x w p f g Comparison.Same in
+    let h = answers_exactly s t y z a x w p f g (Ok None) in
     (λ e. d.1 (h.0 e), λ c. h.1 (d.0 c))
 
 module _ (s t : List ℕ) where
-  both_report : (a : Comparison) (i j l m : ℕ) → Compares s t a → ComparingReports s t (Answer.Loaded i j) (Answer.Loaded l m) (report_comparison a)
-  both_report Comparison.Same i j l m h = inl (refl, h)
-  both_report (Comparison.Different k) i j l m h = inr (k, refl, h)
-  both_report (Comparison.FirstRefused r) i j l m h = absurd h
-  both_report (Comparison.SecondRefused r) i j l m h = absurd h
+  both_report : (a : Comparison) (i j l m : ℕ) → Compares s t a → ComparingReports s t (loaded i j) (loaded l m) (report_comparison a)
+  both_report (Ok None) i j l m h = inl (refl, h)
+  both_report (Ok (Some k)) i j l m h = inr (k, refl, h)
+  both_report (Err r) i j l m h = absurd h
 
   reports : (b c : Answer) (a : Comparison) → SameAnswers s t b c a → ComparingReports s t b c (report_comparison a)
-  reports (Answer.Refused r) c a h = ap report_comparison h
-  reports (Answer.Loaded i j) (Answer.Refused r) a h = ap report_comparison h
-  reports (Answer.Loaded i j) (Answer.Loaded l m) a h = both_report a i j l m h
+  reports (Err r) c a h = ap report_comparison h
+  reports (Ok l) (Err r) a h = ap report_comparison h
+  reports (Ok l) (Ok m) a h = both_report a l.rows l.declarations m.rows m.declarations h
 
 pub compare_reports : CompareReports
 compare_reports s t y z a x w p = reports s t (load s y).answer (load t z).answer a p.answers

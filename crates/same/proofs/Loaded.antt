@@ -1,4 +1,5 @@
 -- What loading a source leaves, refused or not, for the comparison.
+use Rattle.std.specs.Prelude.{Err}
 use Prim.Native.Nat.{ℕ, ◌*◌, ◌≤◌}
 use mathlib.Core.Path.{◌≡◌, refl, sym, ap, subst}
 use mathlib.Core.List.{List, [], map}
@@ -8,7 +9,7 @@ use Rattle.token.specs.declared.Refusal.{Refusal}
 use Rattle.terms.specs.Label.{Declaration, named_declaration}
 use Rattle.terms.specs.Rows.{pad}
 use Rattle.terms.proofs.Widths.{total_surface}
-use Rattle.surface.specs.declared.Answer.{Answer}
+use Rattle.surface.specs.Answer.{loaded}
 use Rattle.surface.specs.Grammar.{Derives}
 use Rattle.surface.specs.Reader.{start, Result, done, refused}
 use Rattle.surface.specs.Loading.{Lengths, loading, Outcome, outcome, load}
@@ -50,11 +51,11 @@ load_work s z = go (loading s z start)
     go (refused x) = refl
     go (done ds q) = refl
 
-pub load_refused : (s : List ℕ) (z : Lengths) (x : Refusal) → (load s z).answer ≡ Answer.Refused x → (load s z).tables ≡ blank z
+pub load_refused : (s : List ℕ) (z : Lengths) (x : Refusal) → (load s z).answer ≡ Err x → (load s z).tables ≡ blank z
 unfolding load
 load_refused s z x = go (loading s z start)
   where
-    go : (r : Result (List Declaration)) → (outcome s z r).answer ≡ Answer.Refused x → (outcome s z r).tables ≡ blank z
+    go : (r : Result (List Declaration)) → (outcome s z r).answer ≡ Err x → (outcome s z r).tables ≡ blank z
     go (refused y) e = refl
     go (done ds q) e = absurd (let n : ◌≡◌ {A = ℕ} 0 1 = cc in omega arith)
 
@@ -67,11 +68,11 @@ pub record Accepted (s core declarations : List ℕ) (n : ℕ) : Type 0 where
   pub room : n * 5 ≤ length declarations
 
 pub accepted : (s : List ℕ) (z : Lengths) (rows n : ℕ) (surface core declarations work : List ℕ)
-    → leaving (Answer.Loaded rows n) surface core declarations work ≡ load s z → Accepted s core declarations n
+    → leaving (loaded rows n) surface core declarations work ≡ load s z → Accepted s core declarations n
 accepted s z rows n surface core declarations work e =
-    let c : Contents s (leaving (Answer.Loaded rows n) surface core declarations work) =
+    let c : Contents s (leaving (loaded rows n) surface core declarations work) =
     subst (Contents s) (sym e) (contents s z (rows, n, ap (λ (o : Outcome). o.answer) (sym e))) in
-    let r : Room (leaving (Answer.Loaded rows n) surface core declarations work) = subst Room (sym e) (load_room s z) in
+    let r : Room (leaving (loaded rows n) surface core declarations work) = subst Room (sym e) (load_room s z) in
     let l = map (named_declaration s) c.module_read in
     record {
       module_read = c.module_read;

@@ -7,13 +7,13 @@ use native.Mathlib.Decide.{dec_lt}
 use native.Mathlib.Omega.{arith}
 use lib.ListN.{length, get_or, take, length-take}
 use lib.Seq.{take-length, length-take-le, ext_get_or}
+use Rattle.std.specs.Prelude.{Option, Some, None}
 use Rattle.rows.specs.DeclarationRows.{first_row}
 use Rattle.terms.specs.Label.{NamedDeclaration}
 use Rattle.terms.specs.Content.{RowContent, RecordContent}
 use Rattle.terms.specs.Agreement.{AgreeModule}
 use Rattle.terms.proofs.NamedModule.{ShapedModule, cores, resolves, rows_of}
 use Rattle.terms.proofs.SameContents.{SameContents, same_contents}
-use Rattle.same.specs.declared.Comparison.{Comparison}
 use Rattle.same.specs.Comparison.{PartAt}
 use Rattle.same.specs.inner.Contents.{SameRow, SameRecord, SameBefore, FirstDifferent, Compared}
 use Rattle.same.proofs.Prefixes.{no_record, take_shaped, take_resolves, length_records, behind_of}
@@ -122,14 +122,10 @@ module _ (s core₁ declarations₁ t core₂ declarations₂ : List ℕ) where
             ]
 
     -- What comparing the tables answers is so of the modules.
-    abbrev pub CompareModules : Comparison → Type 0
-    CompareModules Comparison.Same = AgreeModule l m
-    CompareModules (Comparison.Different k) = PartAt k l m
-    CompareModules (Comparison.FirstRefused r) = ⊥
-    CompareModules (Comparison.SecondRefused r) = ⊥
+    abbrev pub CompareModules : Option ℕ → Type 0
+    CompareModules None = AgreeModule l m
+    CompareModules (Some k) = PartAt k l m
 
-    pub modules_compared : (a : Comparison) → Compared s core₁ declarations₁ t core₂ declarations₂ (length l) (length m) a → CompareModules a
-    modules_compared Comparison.Same c = agree_to l m h j c.0 c.1
-    modules_compared (Comparison.Different k) c = parts k c.0 c.1
-    modules_compared (Comparison.FirstRefused r) c = c
-    modules_compared (Comparison.SecondRefused r) c = c
+    pub modules_compared : (a : Option ℕ) → Compared s core₁ declarations₁ t core₂ declarations₂ (length l) (length m) a → CompareModules a
+    modules_compared None c = agree_to l m h j c.0 c.1
+    modules_compared (Some k) c = parts k c.0 c.1

@@ -1,3 +1,4 @@
+pub mod Answer
 pub mod Comparison
 pub mod Statements
 pub mod inner

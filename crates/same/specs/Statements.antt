@@ -1,26 +1,26 @@
 -- Headline statements about calls of `same`; same/proofs/Exactly.antt has the proofs.
-use Rattle.std.specs.Prelude.{◌≡◌, ◌↔◌, ◌⊎◌, List, [], ◌∷◌, ℕ}
-use Rattle.surface.specs.declared.Answer.{Answer}
+use Rattle.std.specs.Prelude.{◌≡◌, ◌↔◌, ◌⊎◌, List, [], ◌∷◌, ℕ, Ok, Err, None}
+use Rattle.surface.specs.Answer.{Answer}
 use Rattle.surface.specs.Reports.{Report, accepted}
 use Rattle.surface.specs.Tables.{Lengths, Tables}
 use Rattle.surface.specs.Loading.{load}
 use Rattle.surface.specs.SameCore.{SameCore, Accepts}
 use Rattle.surface.specs.Agreement.{Agreement}
-use Rattle.same.specs.declared.Comparison.{Comparison}
+use Rattle.same.specs.Answer.{Comparison}
 use Rattle.same.specs.Comparison.{Parting, Compares, SameAsked, report_comparison, report_refused}
 
--- Of any call whose two sources are loaded, with tables of any lengths: `Same` exactly if the two sources agree, `Different k` exactly if they
--- part at k.
+-- Of any call whose two sources are loaded, with tables of any lengths: `None` exactly if the two sources agree, `Some k` exactly if they part
+-- at k.
 abbrev pub AnswersExactly : Type 0
 AnswersExactly =
     (s t : List ℕ) (y z : Lengths) (a : Comparison) (x w : Tables) → SameAsked s t y z a x w → Accepts (load s y) → Accepts (load t z)
     → (b : Comparison) → (a ≡ b) ↔ Compares s t b
 
--- .. and so `Same` exactly if what the two loads leave is the same core: demand 3 in the answer.
+-- .. and so `None` exactly if what the two loads leave is the same core: demand 3 in the answer.
 abbrev pub SameCoreExactly : Type 0
 SameCoreExactly =
     (s t : List ℕ) (y z : Lengths) (a : Comparison) (x w : Tables) → SameAsked s t y z a x w → Accepts (load s y) → Accepts (load t z)
-    → (a ≡ Comparison.Same) ↔ SameCore s (load s y) t (load t z)
+    → (a ≡ Ok None) ↔ SameCore s (load s y) t (load t z)
 
 -- Nothing is left free: two calls for the same sources, with tables of the same lengths, give the same answer and leave the same tables.
 abbrev pub OneAnswer : Type 0
@@ -30,9 +30,9 @@ OneAnswer =
 -- The number and values of an answer, by what loading the two sources answers: 0 and no value if they agree, 0 and the place where they part,
 -- or the refusal, the first source's coming first.
 abbrev pub ComparingReports : List ℕ → List ℕ → Answer → Answer → Report → Type 0
-ComparingReports s t (Answer.Refused r) b n = n ≡ report_refused 1 r
-ComparingReports s t (Answer.Loaded i j) (Answer.Refused r) n = n ≡ report_refused 2 r
-ComparingReports s t (Answer.Loaded i j) (Answer.Loaded l m) n =
+ComparingReports s t (Err r) b n = n ≡ report_refused 1 r
+ComparingReports s t (Ok l) (Err r) n = n ≡ report_refused 2 r
+ComparingReports s t (Ok l) (Ok m) n =
     ((n ≡ accepted []) × Agreement s t) ⊎ ((k : ℕ) × (n ≡ accepted (k ∷ [])) × Parting k s t)
 
 abbrev pub CompareReports : Type 0

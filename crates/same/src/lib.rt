@@ -9,16 +9,14 @@ ghost use Rattle.same.specs.Comparison.{SameAsked};
 
 use loader::load;
 use rows::{atom, first_row, row_behind};
-use surface::Answer;
 use tables::{clear_from, word_at};
 use token::Refusal;
 
+// Which of the two sources is refused, and its refusal.
 #[derive(Clone, Copy)]
-pub enum Comparison {
-    Same,
-    Different { declaration: usize },
-    FirstRefused(Refusal),
-    SecondRefused(Refusal),
+pub enum Unloaded {
+    First(Refusal),
+    Second(Refusal),
 }
 
 // n words of two tables from one word on.
@@ -26,12 +24,10 @@ fn same_words(a: &[u32], b: &[u32], from: usize, n: usize) -> bool
     requires { from + n ≤ 18446744073709551615 }
     ensures { Decides result (words_at n a.now from ≡ words_at n b.now from) }
 {
-    let mut i = 0;
-    while i < n {
+    for i in 0..n {
         if word_at(a, from + i) != word_at(b, from + i) {
             return false;
         }
-        i += 1;
     }
     true
 }
@@ -70,12 +66,10 @@ fn same_rows(s: &[u8], core1: &[u32], t: &[u8], core2: &[u32], from: usize, to: 
     requires { to ≤ 4294967296 }
     ensures { Decides result (SameRows s.now core1.now t.now core2.now from to) }
 {
-    let mut i = from;
-    while i < to {
+    for i in from..to {
         if !same_row(s, core1, t, core2, i) {
             return false;
         }
-        i += 1;
     }
     true
 }
@@ -130,20 +124,16 @@ fn first_difference(
     requires { m * 5 ≤ length declarations1.now }
     ensures { FirstDifferent s.now core1.now declarations1.now t.now core2.now declarations2.now m n result }
 {
-    let mut k = 0;
-    while k < m {
-        if n <= k {
-            return k;
-        }
+    let shorter = m.min(n);
+    for k in 0..shorter {
         if !same_declaration(s, core1, declarations1, t, core2, declarations2, k) {
             return k;
         }
-        k += 1;
     }
-    k
+    shorter
 }
 
-// Lists of m and n declarations are the same if all of the shorter one is, and the other has no more.
+// The place where lists of m and n declarations part. They are the same if all of the shorter one is, and the other has no more.
 fn compare(
     s: &[u8],
     core1: &[u32],
@@ -153,18 +143,12 @@ fn compare(
     core2: &[u32],
     declarations2: &[u32],
     n: usize,
-) -> Comparison
+) -> Option<usize>
     requires { m * 5 ≤ length declarations1.now }
     ensures { Compared s.now core1.now declarations1.now t.now core2.now declarations2.now m n result }
 {
     let k = first_difference(s, core1, declarations1, m, t, core2, declarations2, n);
-    if k != m {
-        return Comparison::Different { declaration: k };
-    }
-    if k != n {
-        return Comparison::Different { declaration: k };
-    }
-    Comparison::Same
+    (k < m.max(n)).then_some(k)
 }
 
 fn clear(surface: &mut [u32], core: &mut [u32], declarations: &mut [u32])
@@ -177,7 +161,8 @@ fn clear(surface: &mut [u32], core: &mut [u32], declarations: &mut [u32])
     clear_from(declarations, 0);
 }
 
-// Loads both sources and compares what they leave. A refusal of the first comes first; after a refusal both sets of tables are cleared.
+// Loads both sources and compares what they leave: the place where they part, or none if they are the same. A refusal of the first comes
+// first; after a refusal both sets of tables are cleared.
 pub fn same(
     first: &[u8],
     second: &[u8],
@@ -188,7 +173,7 @@ pub fn same(
     core2: &mut [u32],
     declarations2: &mut [u32],
     work: &mut [u32],
-) -> Comparison
+) -> Result<Option<usize>, Unloaded>
     ensures { SameAsked first.now second.now
         (lengths (tables surface1.old core1.old declarations1.old work.old))
         (lengths (tables surface2.old core2.old declarations2.old work.old))
@@ -196,36 +181,28 @@ pub fn same(
         (tables surface1.new core1.new declarations1.new work.new)
         (tables surface2.new core2.new declarations2.new work.new) }
 {
-    let one = load(first, surface1, core1, declarations1, work);
-    match one {
-        Answer::Refused(refusal) => {
+    let one = match load(first, surface1, core1, declarations1, work) {
+        Ok(loaded) => loaded,
+        Err(refusal) => {
             clear(surface2, core2, declarations2);
-            Comparison::FirstRefused(refusal)
+            return Err(Unloaded::First(refusal));
         }
-        Answer::Loaded {
-            rows: _,
-            declarations: m,
-        } => {
-            let other = load(second, surface2, core2, declarations2, work);
-            match other {
-                Answer::Refused(refusal) => {
-                    clear(surface1, core1, declarations1);
-                    Comparison::SecondRefused(refusal)
-                }
-                Answer::Loaded {
-                    rows: _,
-                    declarations: n,
-                } => compare(
-                    first,
-                    core1,
-                    declarations1,
-                    m,
-                    second,
-                    core2,
-                    declarations2,
-                    n,
-                ),
-            }
+    };
+    let other = match load(second, surface2, core2, declarations2, work) {
+        Ok(loaded) => loaded,
+        Err(refusal) => {
+            clear(surface1, core1, declarations1);
+            return Err(Unloaded::Second(refusal));
         }
-    }
+    };
+    Ok(compare(
+        first,
+        core1,
+        declarations1,
+        one.declarations,
+        second,
+        core2,
+        declarations2,
+        other.declarations,
+    ))
 }

@@ -1,13 +1,12 @@
 -- The index of names: one more byte, the walk from a head along the links, and one more declaration.
-use Prim.Native.Nat.{ℕ, zero, suc, ◌+◌, ◌-◌, ◌*◌, ◌/◌, ◌%◌, ◌^◌, ◌≤◌, ◌<◌}
+use Prim.Native.Nat.{ℕ, zero, suc, ◌+◌, ◌*◌, ◌/◌, ◌%◌, ◌≤◌, ◌<◌}
 use mathlib.Core.Path.{◌≡◌, refl, sym, ◌∙◌, ap, subst}
 use mathlib.Core.List.{List}
 use mathlib.Core.Option.{Option, none, some}
 use mathlib.Core.Bool.{Bool, true, false}
 use native.Mathlib.Omega.{arith}
-use native.Mathlib.Decide.{ℕ_discrete}
-use borrow.Author.Tests.{lt-ltb, le-ltb}
-use lib.ListN.{length, get_or, set, drop, drop_of_length-le, length-set}
+use native.Mathlib.Decide.{ℕ_discrete, dec_le}
+use lib.ListN.{length, get_or, set, drop, drop_of_length-le, length-set, replicate, length-replicate, get_or-replicate, get_or-eq_default}
 use lib.Seq.{get_or-set_same, get_or-set_other}
 use Rattle.token.proofs.Runs.{drop_next}
 use Rattle.words.specs.Words.{same_bytes}
@@ -15,7 +14,7 @@ use Rattle.words.proofs.Names.{eq_same, same_eq, same_ne, ne_same}
 use Rattle.terms.specs.Label.{Name}
 use Rattle.terms.specs.Resolution.{next_number, find}
 use Rattle.scope.specs.Scope.{declared_names}
-use Rattle.scope.specs.Index.{heads, places, all_slots, mixed, mark_of, name_bit, bit_of, link_of, Way, here, further, name_at, Entered, Indexed, Open, Searched}
+use Rattle.scope.specs.Index.{heads, places, all_slots, mixed, mark_of, bit_of, link_of, Way, here, further, name_at, Entered, Indexed, Open, Searched}
 use Rattle.scope.specs.declared.Slot.{Slot}
 
 module _ (x : Name) (i m : ℕ) where
@@ -30,19 +29,6 @@ module _ (x : Name) (i m : ℕ) where
 pub marked : (x : Name) (m : ℕ) → m ≡ mixed 0 x → m / 1048576 ≡ mark_of x
 unfolding mark_of
 marked x m e = ap (λ (n : ℕ). n / 1048576) e
-
-pub bit_mixed : (x : Name) (m i : ℕ) → m ≡ mixed 0 x → i < 20 → bit_of x i ≡ m / 2 ^ i % 2
-unfolding bit_of
-bit_mixed x m i e h = rw (bit_of, lt-ltb i 20 h, e)
-
-module _ (x : Name) (i : ℕ) (h : 20 ≤ i) where
-  pub bit_within : (i - 20) / 8 < length x → bit_of x i ≡ get_or x (length x - 1 - (i - 20) / 8) 0 / 2 ^ ((i - 20) % 8) % 2
-  unfolding bit_of name_bit
-  bit_within l = rw (bit_of, le-ltb i 20 h, name_bit, lt-ltb ((i - 20) / 8) (length x) l)
-
-  pub bit_behind : length x ≤ (i - 20) / 8 → bit_of x i ≡ 0
-  unfolding bit_of name_bit
-  bit_behind l = rw (bit_of, le-ltb i 20 h, name_bit, le-ltb ((i - 20) / 8) (length x) l)
 
 -- None of d declarations from place k on has the name.
 none_named : (x : Name) (s t : List ℕ) (k d : ℕ) → ((j : ℕ) → k ≤ j → j < k + d → x ≡ name_at s t j → ⊥) → none ≡ find x (declared_names s t k d)
@@ -97,6 +83,13 @@ no_way z (further j e w) = omega arith
 way_on : {index : List ℕ} {x : Name} {k i slot : ℕ} (j : ℕ) → get_or index slot 0 ≡ j + 1 → (k ≡ j → ⊥) → Way index x k i slot → Way index x k (i + 1) (link_of j (bit_of x i))
 way_on j q n (here e) = absurd (n (omega arith))
 way_on {index} {x} {k} {i} j q n (further m e w) = subst (λ (y : ℕ). Way index x k (i + 1) (link_of y (bit_of x i))) (let z : m ≡ j = omega arith in z) w
+
+-- A table that is all 0.
+pub blank : (n i : ℕ) → ◌≡◌ {A = ℕ} (get_or (replicate n 0) i 0) 0
+blank n i = elim (dec_le n i) [
+  | yes h ↦ get_or-eq_default (replicate n 0) 0 (omega (arith, length-replicate {A = ℕ} n 0))
+  | no h ↦ get_or-replicate n i 0 0 (omega arith)
+]
 
 module _ (s t : List ℕ) where
   pub indexed_none : (index : List ℕ) → ((i : ℕ) → get_or index i 0 ≡ 0) → Indexed s t 0 index
@@ -182,10 +175,3 @@ module _ (s t : List ℕ) where
 
     pub indexed_more : d < places → Indexed s t (d + 1) more
     indexed_more h = record { listed = omega arith; entered = λ r b. entered_more (sym (length-set index slot (d + 1)) ∙ r) h }
-
-    -- Where there is no slot for it, the index says nothing of one more.
-    pub indexed_aside : (d < places → length index ≤ slot) → Indexed s t (d + 1) index
-    indexed_aside n = record {
-      listed = omega arith;
-      entered = λ r b. let z : length index ≤ slot = n (omega arith) in absurd (omega (arith, (q.1 r (omega arith)).low));
-    }

@@ -17,10 +17,6 @@ use Rattle.terms.proofs.Spans.{core_of_ref}
 use Rattle.terms.proofs.Lookup.{behind, lookup_count, as_core, refers_core}
 use Rattle.scope.specs.Scope.{in_scope}
 
-behind_none : (o : Option Found) → o ≡ behind 0 o
-behind_none none = refl
-behind_none (some f) = ap (λ (c : ℕ). some (found c f.row)) (let q : f.count ≡ 0 + f.count = omega arith in q)
-
 behind_next : (k : ℕ) (o : Option Found) → behind k (next_found o) ≡ behind (k + 1) o
 behind_next k none = refl
 behind_next k (some f) = ap (λ (c : ℕ). some (found c f.row)) (let q : k + suc f.count ≡ k + 1 + f.count = omega arith in q)
@@ -29,9 +25,6 @@ module _ (x : Name) where
   -- Of the locals `all`, k were passed and `rest` are left.
   abbrev pub Passed : List Local → ℕ → List Local → Type 0
   Passed all k rest = lookup x all ≡ behind k (lookup x rest)
-
-  pub passed_none : (all : List Local) (k : ℕ) → k ≡ 0 → Passed all k all
-  passed_none all k e = behind_none (lookup x all) ∙ ap (λ (n : ℕ). behind n (lookup x all)) (sym e)
 
   module _ (all : List Local) (k : ℕ) (left : List Local) (p : Passed all k left) where
     pub hit : (y : Local) (rest : List Local) → left ≡ y ∷ rest → called x y.name ≡ true → (m : ℕ) → m ≡ k → some (found m y.row) ≡ lookup x all
@@ -66,15 +59,11 @@ module _ (k : ℕ) (x y : Name) where
 
 -- The innermost local.
 pub innermost : (s w : List ℕ) (d : ℕ) → 0 < d
-    → in_scope s w d ≡ local_of (bound_name (get_or w (1536 + d - 1) 0) (part s (get_or w (d * 2 - 2) 0) (get_or w (d * 2 - 1) 0))) (get_or w (1024 + d - 1) 0) ∷ in_scope s w (d - 1)
+    → in_scope s w d
+    ≡ local_of (bound_name (get_or w (1536 + (d - 1)) 0) (part s (get_or w ((d - 1) * 2) 0) (get_or w ((d - 1) * 2 + 1) 0))) (get_or w (1024 + (d - 1)) 0)
+    ∷ in_scope s w (d - 1)
 unfolding in_scope
-innermost s w d h =
-    let a : (d - 1) * 2 ≡ d * 2 - 2 = omega arith in
-    let b : (d - 1) * 2 + 1 ≡ d * 2 - 1 = omega arith in
-    let c : 1024 + (d - 1) ≡ 1024 + d - 1 = omega arith in
-    let k : 1536 + (d - 1) ≡ 1536 + d - 1 = omega arith in
-    ap (in_scope s w) (let q : d ≡ suc (d - 1) = omega arith in q)
-    ∙ (λ i. local_of (bound_name (get_or w (k i) 0) (part s (get_or w (a i) 0) (get_or w (b i) 0))) (get_or w (c i) 0) ∷ in_scope s w (d - 1))
+innermost s w d h = ap (in_scope s w) (let q : d ≡ suc (d - 1) = omega arith in q)
 
 pub no_local : (s w : List ℕ) (d : ℕ) → d ≡ 0 → in_scope s w d ≡ []
 unfolding in_scope

@@ -1,5 +1,9 @@
 -- A walk over the declarations' names that passes one name after the other, and what a comparison of names says.
-use Prim.Native.Nat.{ℕ, suc, ◌+◌, ◌-◌, ◌*◌, ◌≤◌, ◌<◌}
+use lib.Dec.{eqb}
+use lib.Seq.{take-nil}
+use lib.ListN.{drop_of_length-le}
+use borrow.Author.Tests.{ne_eqb}
+use Prim.Native.Nat.{◌≤◌, ℕ, suc, ◌+◌, ◌-◌, ◌*◌, ◌<◌}
 use mathlib.Core.Path.{◌≡◌, refl, sym, ◌∙◌, ap}
 use mathlib.Core.List.{List, [], ◌∷◌}
 use mathlib.Core.Option.{Option, none, some}
@@ -7,10 +11,7 @@ use mathlib.Core.Bool.{true, false}
 use native.Mathlib.Omega.{arith}
 use native.Mathlib.Numerals.{add-one}
 use native.Mathlib.Nat.{min-le_left}
-use lib.Dec.{eqb}
-use lib.ListN.{length, get_or, take, drop, length-take, length-drop, drop_of_length-le}
-use lib.Seq.{take_all, take-nil}
-use borrow.Author.Tests.{ne_eqb}
+use lib.ListN.{length, get_or, drop, length-take}
 use Rattle.words.proofs.Names.{ne_same}
 use Rattle.words.specs.Words.{same_bytes}
 use Rattle.terms.specs.Label.{Name, part}
@@ -22,10 +23,6 @@ abbrev counted : ℕ → Option ℕ → Option ℕ
 counted k none = none
 counted k (some i) = some (k + i)
 
-counted_none : (o : Option ℕ) → o ≡ counted 0 o
-counted_none none = refl
-counted_none (some i) = ap some (let q : i ≡ 0 + i = omega arith in q)
-
 counted_next : (k : ℕ) (o : Option ℕ) → counted k (next_number o) ≡ counted (k + 1) o
 counted_next k none = refl
 counted_next k (some i) = ap some (let q : k + suc i ≡ k + 1 + i = omega arith in q)
@@ -34,9 +31,6 @@ module _ (x : Name) where
   -- Of the names `all`, k were passed and `rest` are left.
   abbrev pub Passed : List Name → ℕ → List Name → Type 0
   Passed all k rest = find x all ≡ counted k (find x rest)
-
-  pub passed_none : (all : List Name) → Passed all 0 all
-  passed_none all = counted_none (find x all)
 
   module _ (all : List Name) (k : ℕ) (left : List Name) (p : Passed all k left) where
     pub hit : (y : Name) (rest : List Name) → left ≡ y ∷ rest → same_bytes x y ≡ true → some k ≡ find x all
@@ -55,12 +49,7 @@ module _ (x : Name) where
 pub longer : (x : Name) (s : List ℕ) (a n : ℕ) → n < length x → same_bytes x (part s a n) ≡ false
 longer x s a n h = ne_same x (part s a n) (λ q. let e = ap length q in omega (arith, length-take n (drop a s), min-le_left n (length (drop a s))))
 
--- A part that runs past the end is what is left of the source, and nothing where it starts there.
-pub cut_off : (s : List ℕ) (a n : ℕ) → length s ≤ a + n → take (length s - a) (drop a s) ≡ part s a n
-cut_off s a n h =
-    let l = length-drop a s in
-    take_all (length s - a) (drop a s) (omega arith) ∙ sym (take_all n (drop a s) (omega arith))
-
+-- A part that starts behind the source is nothing.
 pub nothing_left : (x : Name) (s : List ℕ) (a n : ℕ) → length s ≤ a → eqb (length x) 0 ≡ same_bytes x (part s a n)
 unfolding same_bytes
 nothing_left x s a n h = rw (drop_of_length-le s {i = a} h, take-nil n) (empty x)

@@ -1,26 +1,26 @@
 -- Document 01, "The core module": the local binders and the declared names, as the work area and the declaration records hold them.
+use Rattle.std.specs.Prelude as Prelude
 use Rattle.std.specs.Prelude.{ℕ, zero, suc, ◌+◌, ◌*◌, ◌≤◌, List, [], ◌∷◌, map, length, get_or}
 use Rattle.std.proofs.Math.Option.{Option, none, some}
 use Rattle.terms.specs.Label.{Name, part}
 use Rattle.terms.specs.Resolution.{Locals, bound_name}
 use Rattle.terms.specs.Lookup as Lookup
 use Rattle.terms.specs.Lookup.{Local, local_of, found}
-use Rattle.scope.specs.declared.Found.{Found}
 use Rattle.scope.specs.declared.FoundLocal.{FoundLocal}
 use Rattle.scope.specs.declared.Referent.{Referent}
 
-abbrev pub place_of : Found → Option ℕ
-place_of (Found.At k) = some k
-place_of Found.Nothing = none
+abbrev pub place_of : Prelude.Option ℕ → Option ℕ
+place_of (Prelude.Some k) = some k
+place_of Prelude.None = none
 
-abbrev pub found_of : FoundLocal → Option Lookup.Found
-found_of (FoundLocal.At count row) = some (found count row)
-found_of FoundLocal.Nothing = none
+abbrev pub found_of : Prelude.Option FoundLocal → Option Lookup.Found
+found_of (Prelude.Some f) = some (found f.count f.row)
+found_of Prelude.None = none
 
-abbrev pub referent_of : Referent → Lookup.Referent
-referent_of (Referent.Var count row) = Lookup.local (found count row)
-referent_of (Referent.Global j) = Lookup.global j
-referent_of Referent.Unknown = Lookup.unknown
+abbrev pub referent_of : Prelude.Option Referent → Lookup.Referent
+referent_of (Prelude.Some (Referent.Local f)) = Lookup.local (found f.count f.row)
+referent_of (Prelude.Some (Referent.Global j)) = Lookup.global j
+referent_of Prelude.None = Lookup.unknown
 
 -- The first d locals of a work area, the innermost in front. A local is four words: start and length of its name from word 0 on, the row of the form
 -- that binds it from word 1,024 on, and that form's kind from word 1,536 on.

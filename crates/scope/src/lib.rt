@@ -30,6 +30,9 @@ const PLACES: usize = 4096;
 
 pub const INDEX: usize = HEADS + 2 * PLACES;
 
+// So many declarations are walked over sooner than an index is cleared.
+pub const FEW: usize = 16;
+
 // How a name's bytes are mixed into a number of 32 bits, and how many of these numbers share a head.
 const MULTIPLIER: usize = 374761393;
 
@@ -40,36 +43,29 @@ const SHARE: usize = NUMBERS / HEADS;
 // How many bits of such a number choose no head.
 const LOW_BITS: usize = 20;
 
-// The number of a name in a list of names, counted from 0.
-#[derive(Clone, Copy)]
-enum Found {
-    At(u32),
-    Nothing,
-}
-
 // A name in scope: how many binders stand inside of it, and the row of the form that binds it.
-#[derive(Clone, Copy)]
-enum FoundLocal {
-    At { count: u32, row: u32 },
-    Nothing,
+#[derive(Clone, Copy, Debug, PartialEq, Eq)]
+pub struct FoundLocal {
+    pub count: u32,
+    pub row: u32,
 }
 
-// The place of a declaration with a name, or the slot of the index where its name would go.
-#[derive(Clone, Copy)]
+// The place of a declaration with a name, or the slot of the index where its name would go. Neither is a failure, so this is no `Result`.
+#[derive(Clone, Copy, Debug, PartialEq, Eq)]
 pub enum Slot {
     Held(u32),
     Free(usize),
 }
 
-// What a name refers to: a local, with the row of the form that binds it, or a declaration's place.
-#[derive(Clone, Copy)]
+// What a name refers to: a local, or a declaration's place.
+#[derive(Clone, Copy, Debug, PartialEq, Eq)]
 pub enum Referent {
-    Var { count: u32, row: u32 },
+    Local(FoundLocal),
     Global(u32),
-    Unknown,
 }
 
-// Whether a part of the source is the name x. What of the part runs past the end is cut off, as `atom` does.
+// Whether a part of the source is the name x. What of the part runs past the end is cut off, as `atom` does, which takes longer: it makes two tests
+// where most parts need one.
 fn is_name(s: &[u8], start: u32, length: u32, x: &[u8]) -> bool
     ensures { result ≡ same_bytes x.now (part s.now start length) }
 {
@@ -77,7 +73,7 @@ fn is_name(s: &[u8], start: u32, length: u32, x: &[u8]) -> bool
     let mut n = length as usize;
     if s.len() < a + n {
         if s.len() <= a {
-            return x.len() == 0;
+            return x.is_empty();
         }
         n = s.len() - a;
     }
@@ -86,66 +82,52 @@ fn is_name(s: &[u8], start: u32, length: u32, x: &[u8]) -> bool
 
 // How many binders lie between a name and the innermost one of that name, and its row. A part is no longer than it says: most are passed by
 // their length. An arrow's length is 0 and its kind is looked at last.
-fn find_local(s: &[u8], work: &[u32], depth: usize, start: u32, length: u32) -> FoundLocal
+fn find_local(s: &[u8], work: &[u32], depth: usize, start: u32, length: u32) -> Option<FoundLocal>
     requires { Binders work.now depth }
     ensures { found_of result ≡ lookup (part s.now start length) (in_scope s.now work.now depth) }
 {
     let x = atom(s, start, length);
-    let mut d = depth;
-    while 0 < d {
-        let n = work[d * 2 - 1];
-        if x.len() <= n as usize {
-            let a = work[d * 2 - 2];
-            if is_name(s, a, n, x) {
-                let kind = work[KINDS + d - 1];
-                if kind != ARROW {
-                    let count = depth - d;
-                    return FoundLocal::At {
-                        count: count as u32,
-                        row: work[ROWS + d - 1],
-                    };
-                }
-            }
+    for d in (0..depth).rev() {
+        let n = work[d * 2 + 1];
+        if x.len() <= n as usize && is_name(s, work[d * 2], n, x) && work[KINDS + d] != ARROW {
+            return Some(FoundLocal {
+                count: (depth - 1 - d) as u32,
+                row: work[ROWS + d],
+            });
         }
-        d -= 1;
     }
-    FoundLocal::Nothing
+    None
 }
 
 // The place of the first of d declarations that has the name x, by a walk over all.
-fn find_declared(s: &[u8], declarations: &[u32], d: usize, x: &[u8]) -> Found
+fn find_declared(s: &[u8], declarations: &[u32], d: usize, x: &[u8]) -> Option<u32>
     requires { (d * 5 ≤ length declarations.now) × (d ≤ 4294967295) }
     ensures { place_of result ≡ find x.now (declared_names s.now declarations.now 0 d) }
 {
-    let mut left = d;
-    while 0 < left {
-        let k = d - left;
+    for k in 0..d {
         let a = declarations[k * RECORD + 1];
         let n = declarations[k * RECORD + 2];
         if is_name(s, a, n, x) {
-            let place = k as u32;
-            return Found::At(place);
+            return Some(k as u32);
         }
-        left -= 1;
     }
-    Found::Nothing
+    None
 }
 
 // A name's bytes mixed into a number: names with other numbers are other names.
+#[tactic(auto, using(crate::proofs::Index::mixed_more, crate::proofs::Index::mixed_end))]
 fn mix(x: &[u8]) -> usize
     ensures { (result ≡ mixed 0 x.now) × (result < 4294967296) }
 {
-    let mut mixed: usize = 0;
-    let mut i = 0;
-    while i < x.len() {
-        let b = x[i] as usize;
-        mixed = (mixed + b) * MULTIPLIER % NUMBERS;
-        i += 1;
+    let mut mixed = 0;
+    for b in x {
+        mixed = (mixed + *b as usize) * MULTIPLIER % NUMBERS;
     }
     mixed
 }
 
 // Bit i of the walk for a name whose number is m: those of the number that chose no head, then those of the name, from its end.
+#[tactic(auto, unfolding(crate::specs::Index::bit_of, crate::specs::Index::name_bit))]
 fn bit(x: &[u8], m: usize, i: usize) -> usize
     requires { m ≡ mixed 0 x.now }
     ensures { (result ≡ bit_of x.now i) × (result < 2) }
@@ -162,7 +144,8 @@ fn bit(x: &[u8], m: usize, i: usize) -> usize
     (b >> j % 8) % 2
 }
 
-// The search for the name x in an index that holds the first d declarations.
+// The search for the name x in an index that holds the first d declarations. The walk ends at an empty slot or at the name, not at a count, so it
+// is a loop that counts the bits itself.
 fn find_slot(s: &[u8], declarations: &[u32], index: &[u16], d: usize, x: &[u8]) -> Slot
     requires { (d ≤ places) × (length index.now ≡ all_slots) × Indexed s.now declarations.now d index.now }
     ensures { Searched s.now declarations.now x.now d index.now result }
@@ -179,11 +162,9 @@ fn find_slot(s: &[u8], declarations: &[u32], index: &[u16], d: usize, x: &[u8]) 
         let a = declarations[k * RECORD + 1];
         let n = declarations[k * RECORD + 2];
         if is_name(s, a, n, x) {
-            let place = k as u32;
-            return Slot::Held(place);
+            return Slot::Held(k as u32);
         }
-        let b = bit(x, m, i);
-        slot = HEADS + 2 * k + b;
+        slot = HEADS + 2 * k + bit(x, m, i);
         i += 1;
     }
 }
@@ -201,15 +182,12 @@ pub fn find_indexed(
     ensures { Searched s.now declarations.now (part s.now start length) d index.now result }
 {
     let x = atom(s, start, length);
-    if index.len() == INDEX {
-        if d <= PLACES {
-            return find_slot(s, declarations, index, d, x);
-        }
+    if index.len() == INDEX && d <= PLACES {
+        return find_slot(s, declarations, index, d, x);
     }
-    let f = find_declared(s, declarations, d, x);
-    match f {
-        Found::At(place) => Slot::Held(place),
-        Found::Nothing => Slot::Free(INDEX),
+    match find_declared(s, declarations, d, x) {
+        Some(place) => Slot::Held(place),
+        None => Slot::Free(INDEX),
     }
 }
 
@@ -217,10 +195,8 @@ pub fn find_indexed(
 pub fn enter(index: &mut [u16], slot: usize, k: usize)
     ensures { (s declarations : List ℕ) → k * 5 + 5 ≤ length declarations → Indexed s declarations k index.old → Searched s declarations (name_at s declarations k) k index.old (Slot.Free slot) → Indexed s declarations (k + 1) index.new }
 {
-    if slot < index.len() {
-        if k < PLACES {
-            index[slot] = (k + 1) as u16;
-        }
+    if slot < index.len() && k < PLACES {
+        index[slot] = (k + 1) as u16;
     }
 }
 
@@ -234,20 +210,16 @@ pub fn find_name(
     d: usize,
     start: u32,
     length: u32,
-) -> Referent
+) -> Option<Referent>
     requires { Binders work.now depth × (d ≤ 4294967295) × Indexed s.now declarations.now d index.now }
     ensures { referent_of result ≡ refers (lookup (part s.now start length) (in_scope s.now work.now depth))
         (find (part s.now start length) (declared_names s.now declarations.now 0 d)) }
 {
-    let l = find_local(s, work, depth, start, length);
-    match l {
-        FoundLocal::At { count, row } => Referent::Var { count, row },
-        FoundLocal::Nothing => {
-            let g = find_indexed(s, declarations, index, d, start, length);
-            match g {
-                Slot::Held(j) => Referent::Global(j),
-                Slot::Free(_) => Referent::Unknown,
-            }
-        }
+    if let Some(local) = find_local(s, work, depth, start, length) {
+        return Some(Referent::Local(local));
+    }
+    match find_indexed(s, declarations, index, d, start, length) {
+        Slot::Held(place) => Some(Referent::Global(place)),
+        Slot::Free(_) => None,
     }
 }

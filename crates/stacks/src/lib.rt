@@ -24,7 +24,7 @@ const WORKS: usize = 5120;
 
 // An Eval keeps how many forms may still be opened in its row, a PushLocal the row of the form whose binder comes into scope, a Build the row
 // that it is for and its kind in the core.
-#[derive(Clone, Copy)]
+#[derive(Clone, Copy, Debug, PartialEq, Eq)]
 pub enum Work {
     Eval { row: u32, left: u32 },
     PushLocal { row: u32 },
@@ -32,7 +32,7 @@ pub enum Work {
     Build { kind: u32, row: u32 },
 }
 
-// What a work item's first word says.
+// What a work item's first word says: numbers, since the lent work area is a table of words.
 const EVAL: u32 = 0;
 
 const PUSH_LOCAL: u32 = 1;
@@ -52,6 +52,7 @@ fn store_work(work: &mut [u32], t: usize, op: u32, a: u32, b: u32)
 }
 
 // One more work item, on top of t others.
+#[tactic(auto, using(crate::proofs::Pushing::pushed_as), unfolding(crate::specs::Stacks::work_of))]
 pub fn push_work(work: &mut [u32], t: usize, item: Work)
     requires { (t < works_room) × WorkArea work.old }
     ensures { WorkPushed work.old work.new (t + 1) (item ∷ works_in work.old t) }
@@ -65,18 +66,18 @@ pub fn push_work(work: &mut [u32], t: usize, item: Work)
 }
 
 // The work item on top of t others.
+#[tactic(auto, unfolding(crate::specs::Stacks::work_of, crate::specs::Stacks::works_in))]
 pub fn pop_work(work: &[u32], t: usize) -> Work
     requires { (t < works_room) × WorkArea work.now }
     ensures { works_in work.now (t + 1) ≡ result ∷ works_in work.now t }
 {
     let at = WORKS + t * 3;
-    let op = work[at];
     let a = work[at + 1];
     let b = work[at + 2];
-    match op {
-        0 => Work::Eval { row: a, left: b },
-        1 => Work::PushLocal { row: a },
-        2 => Work::PopLocal,
+    match work[at] {
+        EVAL => Work::Eval { row: a, left: b },
+        PUSH_LOCAL => Work::PushLocal { row: a },
+        POP_LOCAL => Work::PopLocal,
         _ => Work::Build { kind: a, row: b },
     }
 }
@@ -94,12 +95,9 @@ pub fn pop_values(work: &[u32], v: usize, n: usize) -> [u32; 6]
     requires { (v ≤ values_room) × (n ≤ 6) × WorkArea work.now }
     ensures { result ≡ pad 6 (drop v (values_in work.now (v + n))) }
 {
-    let mut values = [0u32; 6];
-    let mut i: usize = 0;
-    while i < n {
-        values[i] = work[VALUES + v + i];
-        i += 1;
-    }
+    let at = VALUES + v;
+    let mut values = [0; 6];
+    values[..n].copy_from_slice(&work[at..at + n]);
     values
 }
 
@@ -107,21 +105,18 @@ pub fn pop_values(work: &[u32], v: usize, n: usize) -> [u32; 6]
 fn name_length(kind: u32, length: u32) -> u32
     ensures { result ≡ cond (eqb kind arrow) 0 length }
 {
-    if kind == ARROW {
-        return 0;
-    }
-    length
+    if kind == ARROW { 0 } else { length }
 }
 
 // One more binder, of a form of some kind, inside of l others.
+#[tactic(auto, using(crate::proofs::Pushing::local_pushed))]
 pub fn push_local(work: &mut [u32], l: usize, kind: u32, start: u32, length: u32, row: u32)
     requires { (l < names_room) × WorkArea work.old }
     ensures { LocalPushed work.old work.new l kind start length row }
 {
     let at = l * 2;
-    let n = name_length(kind, length);
     work[at] = start;
-    work[at + 1] = n;
+    work[at + 1] = name_length(kind, length);
     work[ROWS + l] = row;
     work[KINDS + l] = kind;
 }

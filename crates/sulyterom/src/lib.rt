@@ -13,22 +13,21 @@ ghost use Rattle.surface.specs.Loading.{load};
 ghost use Rattle.loader.specs.Parsed.{parse, report_read};
 ghost use Rattle.reports.specs.Numbers.{tells, telling};
 
-use reader::Method;
+use reader::{Frames, Method, Plain};
 use reports::{report_loaded, report_read, tell};
 
-fn load_by(
+fn load_by<M: Method>(
     source: &[u8],
     surface: &mut [u32],
     core: &mut [u32],
     declarations: &mut [u32],
     work: &mut [u32],
     answer: &mut [u64],
-    method: Method,
 ) -> u8
     ensures { tells result answer.new (tables surface.new core.new declarations.new work.new)
         ≡ telling report 3 answer.old (load source.now (lengths (tables surface.old core.old declarations.old work.old))) }
 {
-    let loaded = loader::load_by(source, surface, core, declarations, work, method);
+    let loaded = loader::load_by::<M>(source, surface, core, declarations, work);
     let numbers = report_loaded(loaded);
     tell(answer, numbers)
 }
@@ -46,15 +45,7 @@ pub extern "C" fn sulyterom_load(
     ensures { tells result answer.new (tables surface.new core.new declarations.new work.new)
         ≡ telling report 3 answer.old (load source.now (lengths (tables surface.old core.old declarations.old work.old))) }
 {
-    load_by(
-        source,
-        surface,
-        core,
-        declarations,
-        work,
-        answer,
-        Method::Frames,
-    )
+    load_by::<Frames>(source, surface, core, declarations, work, answer)
 }
 
 // The same by the plain reader: it leaves the same answer and the same tables. Document 02, Req 11.
@@ -70,29 +61,20 @@ pub extern "C" fn sulyterom_load_plain(
     ensures { tells result answer.new (tables surface.new core.new declarations.new work.new)
         ≡ telling report 3 answer.old (load source.now (lengths (tables surface.old core.old declarations.old work.old))) }
 {
-    load_by(
-        source,
-        surface,
-        core,
-        declarations,
-        work,
-        answer,
-        Method::Plain,
-    )
+    load_by::<Plain>(source, surface, core, declarations, work, answer)
 }
 
-fn parse_by(
+fn parse_by<M: Method>(
     source: &[u8],
     surface: &mut [u32],
     declarations: &mut [u32],
     work: &mut [u32],
     answer: &mut [u64],
-    method: Method,
 ) -> u8
     ensures { tells result answer.new (tables surface.new [] declarations.new work.new)
         ≡ telling report_read 3 answer.old (parse source.now (lengths (tables surface.old [] declarations.old work.old))) }
 {
-    let read = loader::parse_surface_by(source, surface, declarations, work, method);
+    let read = loader::parse_surface_by::<M>(source, surface, declarations, work);
     let numbers = report_read(read);
     tell(answer, numbers)
 }
@@ -109,7 +91,7 @@ pub extern "C" fn sulyterom_parse(
     ensures { tells result answer.new (tables surface.new [] declarations.new work.new)
         ≡ telling report_read 3 answer.old (parse source.now (lengths (tables surface.old [] declarations.old work.old))) }
 {
-    parse_by(source, surface, declarations, work, answer, Method::Frames)
+    parse_by::<Frames>(source, surface, declarations, work, answer)
 }
 
 // The same by the plain reader.
@@ -124,5 +106,5 @@ pub extern "C" fn sulyterom_parse_plain(
     ensures { tells result answer.new (tables surface.new [] declarations.new work.new)
         ≡ telling report_read 3 answer.old (parse source.now (lengths (tables surface.old [] declarations.old work.old))) }
 {
-    parse_by(source, surface, declarations, work, answer, Method::Plain)
+    parse_by::<Plain>(source, surface, declarations, work, answer)
 }

@@ -8,10 +8,10 @@ ghost use Rattle.module_name.specs.ModuleName.{module_name, report_module_name};
 ghost use Rattle.surface.specs.Reports.{report_token};
 ghost use Rattle.reports.specs.Numbers.{report_listed, tells, telling, Told};
 
-use reader::Method;
+use reader::{Frames, Method, Plain};
 use reports::{report_listed, report_module_name, report_storage, report_token, tell, tell_all};
 
-fn list_by(
+fn list_by<M: Method>(
     source: &[u8],
     surface: &mut [u32],
     core: &mut [u32],
@@ -19,14 +19,13 @@ fn list_by(
     work: &mut [u32],
     text: &mut [u8],
     answer: &mut [u64],
-    method: Method,
 ) -> u8
     ensures { Told (λ l. Lists source.now
         (tables surface.old core.old declarations.old work.old)
         text.old l (tables surface.new core.new declarations.new work.new)
         text.new) report_listed 4 answer.old result answer.new }
 {
-    let listed = lister::list_by(source, surface, core, declarations, work, text, method);
+    let listed = lister::list_by::<M>(source, surface, core, declarations, work, text);
     let numbers = report_listed(listed);
     tell_all(answer, numbers)
 }
@@ -48,16 +47,7 @@ pub extern "C" fn sulyterom_list(
         text.old l (tables surface.new core.new declarations.new work.new)
         text.new) report_listed 4 answer.old result answer.new }
 {
-    list_by(
-        source,
-        surface,
-        core,
-        declarations,
-        work,
-        text,
-        answer,
-        Method::Frames,
-    )
+    list_by::<Frames>(source, surface, core, declarations, work, text, answer)
 }
 
 // The same by the plain reader.
@@ -76,16 +66,7 @@ pub extern "C" fn sulyterom_list_plain(
         text.old l (tables surface.new core.new declarations.new work.new)
         text.new) report_listed 4 answer.old result answer.new }
 {
-    list_by(
-        source,
-        surface,
-        core,
-        declarations,
-        work,
-        text,
-        answer,
-        Method::Plain,
-    )
+    list_by::<Plain>(source, surface, core, declarations, work, text, answer)
 }
 
 // The token at or behind an offset: its kind (1 `(`, 2 `)`, 3 an atom, 4 the end), where it starts and where it ends; or the refusal of a byte.

@@ -1,4 +1,5 @@
 -- Document 02, Req 10: what loading leaves of an arrow, and sources of two editions compared, an arrow against a pi.
+use Rattle.surface.specs.Answer.{loaded}
 use mathlib.Core.Path.{◌≡◌, refl, ap}
 use mathlib.Core.List.{List, [], ◌∷◌}
 use Prim.Native.Nat.{ℕ}
@@ -11,7 +12,6 @@ use Rattle.terms.specs.Forms.{forms, forms_0_2, edition_0_1, edition_0_2, form_o
 use Rattle.terms.specs.Content.{RowContent}
 use Rattle.terms.specs.Resolution.{find, find_local, core_of, first_unknown, first_refused}
 use Rattle.surface.specs.Reading.{store, finish, several, term, token, opening, closing, atom, word, natural, declaration_kind, name, bare, tagged, known, beginning_on, beginning, body, declared, declaration, ending, onwards, declarations, edition_of, supported, surface_line, module_line, head, read_module}
-use Rattle.surface.specs.declared.Answer.TheVariants.{Loaded}
 use Rattle.surface.specs.Loading.{parsing, reading, loading, load}
 use Rattle.surface.specs.SameCore.{SameCore, Accepts}
 use Rattle.surface.specs.Agreement.{Agreement}
@@ -33,7 +33,7 @@ taken = H "(postulate a (lam x (pi x nat (ref x))))"
 -- Surface kind 25 with its children alone, and the core row of a pi; in the codomain the count is one higher, in the domain it is not.
 abbrev arrow_row : Reading
 arrow_row =
-    gives (H2 "(postulate y (pi x nat (arrow (ref x) (ref x))))") (Loaded 5 1)
+    gives (H2 "(postulate y (pi x nat (arrow (ref x) (ref x))))") (loaded 5 1)
     (19 ∷ 0 ∷ 0 ∷ 0 ∷ 0 ∷ 0 ∷ 0 ∷ 42 ∷
     24 ∷ 58 ∷ 1 ∷ 0 ∷ 0 ∷ 0 ∷ 0 ∷ 53 ∷
     24 ∷ 66 ∷ 1 ∷ 0 ∷ 0 ∷ 0 ∷ 0 ∷ 61 ∷

@@ -1,4 +1,5 @@
 -- Demand 3: what two loads leave is the same core exactly if the two sources agree.
+use Rattle.surface.specs.Answer.{loaded}
 use mathlib.Core.Path.{◌≡◌, refl, sym, ap, ◌∙◌, subst, subst₂}
 use mathlib.Core.Logic.{◌↔◌}
 use mathlib.Core.List.{List, [], map}
@@ -17,7 +18,6 @@ use Rattle.terms.proofs.Widths.{wide_surface, wide_core, wide_records, total_sur
 use Rattle.terms.proofs.Spans.{row_contents, record_contents}
 use Rattle.terms.proofs.FirstRefused.{none_refused}
 use Rattle.terms.proofs.SameContents.{same_contents}
-use Rattle.surface.specs.declared.Answer.TheVariants.{Loaded}
 use Rattle.surface.specs.Grammar.{Derives}
 use Rattle.surface.specs.Reader.{Position, start, Result, done, refused}
 use Rattle.surface.specs.Loading.{Lengths, lengths, loading, Outcome, outcome, load}
@@ -65,7 +65,7 @@ pub contents : (s : List ℕ) (z : Lengths) → Accepts (load s z) → Contents 
 unfolding load
 contents s z a = go (loading s z start) refl a.2
   where
-    go : (o : Result (List Declaration)) → loading s z start ≡ o → (outcome s z o).answer ≡ Loaded a.0 a.1 → Contents s (outcome s z o)
+    go : (o : Result (List Declaration)) → loading s z start ≡ o → (outcome s z o).answer ≡ loaded a.0 a.1 → Contents s (outcome s z o)
     go (refused r) e f = absurd (let z : ◌≡◌ {A = ℕ} 0 1 = cc in omega arith)
     go (done ds q) e f =
         let l = is_loaded s z ds q e in

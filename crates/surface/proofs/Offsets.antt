@@ -1,4 +1,6 @@
 -- Document 02, Req 01: the eighth words of the rows are where the terms begin.
+use Rattle.std.specs.Prelude.{Ok}
+use Rattle.surface.specs.Answer.{loaded}
 use mathlib.Core.Path.{◌≡◌, refl, sym, ap, ◌∙◌, subst}
 use mathlib.Core.List.{List, [], ◌∷◌, map}
 use mathlib.Core.Bool.{true}
@@ -7,7 +9,6 @@ use native.Mathlib.Omega.{arith}
 use lib.ListN.{length, take, drop}
 use Rattle.token.specs.Token.{next_token}
 use Rattle.token.specs.declared.Token.{Token}
-use Rattle.token.specs.declared.Lexed.TheVariants.{Got}
 use Rattle.token.proofs.Parentheses.{open_here}
 use Rattle.words.proofs.Names.{same_eq}
 use Rattle.terms.specs.Forms.{Shape, alone, with_name, with_numeral, binding, plain, Form, Edition}
@@ -16,7 +17,6 @@ use Rattle.terms.specs.Label.{part, Label, Declaration}
 use Rattle.terms.specs.Offsets.{eighth_word, begins_with, first_bytes, TermsBegin, ModuleBegins}
 use Rattle.terms.proofs.FormTable.{every, of_word, word_is}
 use Rattle.terms.proofs.Offsets.{surface_offsets, core_offsets}
-use Rattle.surface.specs.declared.Answer.TheVariants.{Loaded}
 use Rattle.surface.specs.Text.{text}
 use Rattle.surface.specs.Grammar.{Tokens, the_next, Opens, Tag, Terms, no_term, leaf_term, ref_term, universe_term, binding_term, plain_term, Declarations, no_declaration, postulate, transparent, opaque, Head, head, Derives}
 use Rattle.surface.specs.Reader.{start, Result, done, refused}
@@ -44,7 +44,7 @@ module _ (s : List ℕ) where
   -- Tokens of the source.
   abbrev Lexed : List Token → Type 0
   Lexed [] = Unit {0}
-  Lexed (t ∷ ts) = ((at : ℕ) × (next_token s at ≡ Got t)) × Lexed ts
+  Lexed (t ∷ ts) = ((at : ℕ) × (next_token s at ≡ Ok t)) × Lexed ts
 
   all_lexed : (at : ℕ) (ts : List Token) → Tokens (next_token s) at ts → Lexed ts
   all_lexed at [] k = tt
@@ -64,7 +64,7 @@ module _ (s : List ℕ) where
     leaf_begins : (t : Token) (f : Form) → Tag E s f alone t → At f.kind t.start
     leaf_begins t f g = begins_at t f alone t.start f.word g refl (take_own (t.end - t.start) (drop t.start s) f.word (word_is (text s t) E.forms f g.is))
 
-    form_begins : (o t : Token) (f : Form) (c : Shape) → ((at : ℕ) × (next_token s at ≡ Got o)) → Opens o → Tag E s f c t → begins_with c f.word ≡ 40 ∷ [] → At f.kind o.start
+    form_begins : (o t : Token) (f : Form) (c : Shape) → ((at : ℕ) × (next_token s at ≡ Ok o)) → Opens o → Tag E s f c t → begins_with c f.word ≡ 40 ∷ [] → At f.kind o.start
     form_begins o t f c k a g e = begins_at t f c o.start (40 ∷ []) g e (open_here s k.0 o k.1 a)
 
     terms_begin : {n : ℕ} {ts us : List Token} {f : Forest Label} → Terms E s n ts f us → Lexed ts → TermsBegin s f × Lexed us
@@ -103,7 +103,7 @@ module _ (s : List ℕ) where
   unfolding load
   by_definition z a = go (loading s z start) refl a.2
     where
-      go : (o : Result (List Declaration)) → loading s z start ≡ o → (outcome s z o).answer ≡ Loaded a.0 a.1 → RowsBegin s (outcome s z o)
+      go : (o : Result (List Declaration)) → loading s z start ≡ o → (outcome s z o).answer ≡ loaded a.0 a.1 → RowsBegin s (outcome s z o)
       go (refused r) e f = absurd (let z : ◌≡◌ {A = ℕ} 0 1 = cc in omega arith)
       go (done ds q) e f =
           let d = (is_read s z ds q (is_loaded s z ds q e).read).readable.derives in

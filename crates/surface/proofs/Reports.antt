@@ -1,12 +1,14 @@
 -- The numbers and values of answers: by the promise of a call they are what the definitions give.
+use Rattle.token.proofs.Numbers.{number_inj}
+use Rattle.token.specs.Token.{Place}
+use Rattle.std.specs.Prelude.{Ok, Err, Some, None}
 use mathlib.Core.Path.{◌≡◌, refl, sym, ap, ◌∙◌}
 use mathlib.Core.List.{List, [], ◌∷◌}
 use Prim.Native.Nat.{ℕ}
 use native.Mathlib.Omega.{arith}
 use lib.ListN.{length}
-use Rattle.token.specs.declared.Place.{Place}
 use Rattle.terms.specs.Label.{Declaration}
-use Rattle.surface.specs.declared.Answer.{Answer}
+use Rattle.surface.specs.Answer.{loaded}
 use Rattle.surface.specs.Reader.{start, Result, done, refused}
 use Rattle.surface.specs.Tables.{Lengths, lengths}
 use Rattle.surface.specs.Reports.{Report, offsets, report}
@@ -22,24 +24,24 @@ unfolding load
 load_reports s before a after e = ap (λ (o : Outcome). report o.answer) e ∙ outcome_reports s (lengths before) (loading s (lengths before) start)
 
 same_place : (p q : Place) → offsets p ≡ offsets q → p ≡ q
-same_place (Place.At x) (Place.At y) e = ap Place.At (let k : x ≡ y = cc in k)
-same_place (Place.At x) Place.Nowhere e = absurd (let k : ◌≡◌ {A = ℕ} 1 0 = ap length e in omega arith)
-same_place Place.Nowhere (Place.At y) e = absurd (let k : ◌≡◌ {A = ℕ} 0 1 = ap length e in omega arith)
-same_place Place.Nowhere Place.Nowhere e = refl
+same_place (Some x) (Some y) e = ap Some (let k : x ≡ y = cc in k)
+same_place (Some x) None e = absurd (let k : ◌≡◌ {A = ℕ} 1 0 = ap length e in omega arith)
+same_place None (Some y) e = absurd (let k : ◌≡◌ {A = ℕ} 0 1 = ap length e in omega arith)
+same_place None None e = refl
 
 few : (p : Place) (x y : ℕ) → offsets p ≡ x ∷ y ∷ [] → ⊥
-few (Place.At z) x y e = let k : ◌≡◌ {A = ℕ} 1 2 = ap length e in omega arith
-few Place.Nowhere x y e = let k : ◌≡◌ {A = ℕ} 0 2 = ap length e in omega arith
+few (Some z) x y e = let k : ◌≡◌ {A = ℕ} 1 2 = ap length e in omega arith
+few None x y e = let k : ◌≡◌ {A = ℕ} 0 2 = ap length e in omega arith
 
 pub report_tells : ReportTells
-report_tells (Answer.Loaded m n) (Answer.Loaded o p) e =
-    let v : m ∷ n ∷ [] ≡ o ∷ p ∷ [] = ap (λ (r : Report). r.values) e in
-    let i : m ≡ o = cc in
-    let j : n ≡ p = cc in
-    λ k. Answer.Loaded (i k) (j k)
-report_tells (Answer.Loaded m n) (Answer.Refused r) e = absurd (few r.place m n (sym (ap (λ (r : Report). r.values) e)))
-report_tells (Answer.Refused r) (Answer.Loaded o p) e = absurd (few r.place o p (ap (λ (r : Report). r.values) e))
-report_tells (Answer.Refused r) (Answer.Refused q) e =
-    let i : r.class ≡ q.class = ap (λ (r : Report). r.number) e in
+report_tells (Ok l) (Ok m) e =
+    let v : l.rows ∷ l.declarations ∷ [] ≡ m.rows ∷ m.declarations ∷ [] = ap (λ (r : Report). r.values) e in
+    let i : l.rows ≡ m.rows = cc in
+    let j : l.declarations ≡ m.declarations = cc in
+    λ k. loaded (i k) (j k)
+report_tells (Ok l) (Err r) e = absurd (few r.place l.rows l.declarations (sym (ap (λ (r : Report). r.values) e)))
+report_tells (Err r) (Ok l) e = absurd (few r.place l.rows l.declarations (ap (λ (r : Report). r.values) e))
+report_tells (Err r) (Err q) e =
+    let i : r.class ≡ q.class = number_inj r.class q.class (ap (λ (r : Report). r.number) e) in
     let j = same_place r.place q.place (ap (λ (r : Report). r.values) e) in
-    λ k. Answer.Refused (record { class = i k; place = j k })
+    λ k. Err (record { class = i k; place = j k })

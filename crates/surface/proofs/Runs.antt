@@ -1,11 +1,11 @@
 -- Tokens one behind another, up to an offset, whatever stands behind it.
+use Rattle.token.specs.Token.{Lexed}
+use Rattle.std.specs.Prelude.{Ok}
 use mathlib.Core.Path.{◌≡◌, refl, subst}
 use mathlib.Core.List.{List, [], ◌∷◌, ◌++◌}
 use Prim.Native.Nat.{ℕ}
 use Rattle.token.specs.declared.TokenKind.{TokenKind}
 use Rattle.token.specs.declared.Token.{Token}
-use Rattle.token.specs.declared.Lexed.{Lexed}
-use Rattle.token.specs.declared.Lexed.TheVariants.{Got}
 use Rattle.surface.specs.Grammar.{Tokens, the_next}
 use Rattle.surface.specs.Reader.{Position}
 use Rattle.surface.proofs.Steps.{Took}
@@ -13,10 +13,10 @@ use Rattle.surface.proofs.Steps.{Took}
 -- The tokens from an offset on begin with ts, the last of which ends at e.
 pub data Run (next : ℕ → Lexed) : ℕ → List Token → ℕ → Type 0 where
   run_end : {at : ℕ} → Run next at [] at
-  run_more : {at e : ℕ} {t : Token} {ts : List Token} → next at ≡ Got t → ¬ (t.kind ≡ TokenKind.Eof) → Run next t.end ts e → Run next at (t ∷ ts) e
+  run_more : {at e : ℕ} {t : Token} {ts : List Token} → next at ≡ Ok t → ¬ (t.kind ≡ TokenKind.Eof) → Run next t.end ts e → Run next at (t ∷ ts) e
 
 module _ {next : ℕ → Lexed} where
-  pub first_of : {at e : ℕ} {t : Token} {ts : List Token} → Run next at (t ∷ ts) e → next at ≡ Got t
+  pub first_of : {at e : ℕ} {t : Token} {ts : List Token} → Run next at (t ∷ ts) e → next at ≡ Ok t
   first_of (run_more e g r) = e
 
   pub others_of : {at e : ℕ} {t : Token} {ts : List Token} → Run next at (t ∷ ts) e → Run next t.end ts e

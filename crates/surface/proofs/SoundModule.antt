@@ -7,9 +7,8 @@ use Prim.Native.Nat.{ℕ, ◌≤◌}
 use Prim.Native.String.{String}
 use native.Mathlib.Omega.{arith}
 use lib.ListN.{length}
-use Rattle.token.specs.Token.{next_token}
+use Rattle.token.specs.Token.{next_token, Lexed}
 use Rattle.token.specs.declared.Token.{Token}
-use Rattle.token.specs.declared.Lexed.{Lexed}
 use Rattle.words.specs.Words.{ascii, same_bytes}
 use Rattle.words.proofs.Names.{same_eq}
 use Rattle.terms.specs.Forms.{Edition, edition_0_1, edition_0_2}

@@ -1,4 +1,6 @@
 -- What a step of the reader that succeeds has met.
+use Rattle.token.specs.Token.{Lexed}
+use Rattle.std.specs.Prelude.{Ok, Err}
 use mathlib.Core.Path.{◌≡◌, refl, sym, ap, ◌∙◌, subst}
 use mathlib.Core.List.{List, ◌∷◌}
 use mathlib.Core.Bool.{Bool, true, false, not, false≢true}
@@ -8,8 +10,6 @@ use borrow.Author.Tests.{not-true}
 use Rattle.token.specs.declared.TokenKind.{TokenKind}
 use Rattle.token.specs.declared.Token.{Token}
 use Rattle.token.specs.declared.Refusal.{Refusal}
-use Rattle.token.specs.declared.Lexed.{Lexed}
-use Rattle.token.specs.declared.Lexed.TheVariants.{Got, Refused}
 use Rattle.words.specs.Words.{same_bytes, identifier, numeral}
 use Rattle.words.proofs.Names.{same_eq}
 use Rattle.terms.specs.Forms.{Edition}
@@ -70,7 +70,7 @@ atom_goes k e f = let z : ◌≡◌ {A = ℕ} 0 1 = cc in omega arith
 
 -- The token t was taken between two positions.
 pub record Took (next : ℕ → Lexed) (p : Position) (t : Token) (q : Position) : Type 0 where
-  pub takes : next p.offset ≡ Got t
+  pub takes : next p.offset ≡ Ok t
   pub position : q ≡ record { offset = t.end; rows = p.rows }
 
 -- Then it stands before the tokens that follow.
@@ -86,8 +86,8 @@ module _ (next : ℕ → Lexed) where
   token_done p q t e = go (next p.offset) refl e
     where
       go : (x : Lexed) → next p.offset ≡ x → lexed p.rows x ≡ done t q → Took next p t q
-      go (Got u) f g = let i = done_inj g in record { takes = f ∙ ap {B = Lexed} Got i.0; position = sym i.1 ∙ ap (λ (v : Token). record { offset = v.end; rows = p.rows }) i.0 }
-      go (Refused r) f g = no_done g
+      go (Ok u) f g = let i = done_inj g in record { takes = f ∙ ap {B = Lexed} Ok i.0; position = sym i.1 ∙ ap (λ (v : Token). record { offset = v.end; rows = p.rows }) i.0 }
+      go (Err r) f g = no_done g
 
   pub opening_done : (p q : Position) (t : Token) → opening next p ≡ done t q → Took next p t q × Opens t
   unfolding opening

@@ -1,4 +1,6 @@
 -- What a step of the reader gives on the tokens that it wants.
+use Rattle.token.specs.Token.{Lexed}
+use Rattle.std.specs.Prelude.{Ok}
 use mathlib.Core.Path.{◌≡◌, refl, ap, ◌∙◌}
 use mathlib.Core.List.{List, ◌∷◌}
 use mathlib.Core.Option.{Option}
@@ -7,8 +9,6 @@ use Prim.Native.Nat.{ℕ}
 use Rattle.token.specs.declared.TokenKind.{TokenKind}
 use Rattle.token.specs.declared.Token.{Token}
 use Rattle.token.specs.declared.Refusal.{Refusal}
-use Rattle.token.specs.declared.Lexed.{Lexed}
-use Rattle.token.specs.declared.Lexed.TheVariants.{Got}
 use Rattle.words.specs.Words.{same_bytes, identifier, numeral}
 use Rattle.words.proofs.Names.{eq_same}
 use Rattle.terms.specs.Forms.{Shape, alone, with_name, with_numeral, binding, plain, Form, Edition}
@@ -30,41 +30,41 @@ require_stops t r p k e = ap (λ y. after (require y r p) k) e
 abbrev pub to : Position → Token → Position
 to p t = record { offset = t.end; rows = p.rows }
 
-pub first_token : {next : ℕ → Lexed} {at : ℕ} {t : Token} {ts : List Token} → Tokens next at (t ∷ ts) → next at ≡ Got t
+pub first_token : {next : ℕ → Lexed} {at : ℕ} {t : Token} {ts : List Token} → Tokens next at (t ∷ ts) → next at ≡ Ok t
 first_token (the_next e g k) = e
 
 pub other_tokens : {next : ℕ → Lexed} {at : ℕ} {t : Token} {ts : List Token} → Tokens next at (t ∷ ts) → Tokens next t.end ts
 other_tokens (the_next e g k) = k
 
 module _ (next : ℕ → Lexed) where
-  pub token_takes : (p : Position) (t : Token) → next p.offset ≡ Got t → token next p ≡ done t (to p t)
+  pub token_takes : (p : Position) (t : Token) → next p.offset ≡ Ok t → token next p ≡ done t (to p t)
   unfolding token
   token_takes p t e = ap (lexed p.rows) e
 
-  pub opening_takes : (p : Position) (t : Token) → next p.offset ≡ Got t → Opens t → opening next p ≡ done t (to p t)
+  pub opening_takes : (p : Position) (t : Token) → next p.offset ≡ Ok t → Opens t → opening next p ≡ done t (to p t)
   unfolding opening
   opening_takes p t e k = after_go _ _ t (to p t) _ (token_takes p t e) (require_go (is_open t.kind) _ (to p t) _ _ (ap is_open k) refl)
 
-  pub closing_takes : (p : Position) (t : Token) → next p.offset ≡ Got t → Closes t → closing next p ≡ done t (to p t)
+  pub closing_takes : (p : Position) (t : Token) → next p.offset ≡ Ok t → Closes t → closing next p ≡ done t (to p t)
   unfolding closing
   closing_takes p t e k = after_go _ _ t (to p t) _ (token_takes p t e) (require_go (is_close t.kind) _ (to p t) _ _ (ap is_close k) refl)
 
-  pub atom_takes : (p : Position) (t : Token) → next p.offset ≡ Got t → t.kind ≡ TokenKind.Atom → atom next p ≡ done t (to p t)
+  pub atom_takes : (p : Position) (t : Token) → next p.offset ≡ Ok t → t.kind ≡ TokenKind.Atom → atom next p ≡ done t (to p t)
   unfolding atom
   atom_takes p t e k = after_go _ _ t (to p t) _ (token_takes p t e) (require_go (is_atom t.kind) _ (to p t) _ _ (ap is_atom k) refl)
 
   module _ (s : List ℕ) where
-    pub word_takes : (w : List ℕ) (p : Position) (t : Token) → next p.offset ≡ Got t → Word s w t → word next s w p ≡ done t (to p t)
+    pub word_takes : (w : List ℕ) (p : Position) (t : Token) → next p.offset ≡ Ok t → Word s w t → word next s w p ≡ done t (to p t)
     unfolding word
     word_takes w p t e k = after_go _ _ t (to p t) _ (atom_takes p t e k.atom) (require_go (same_bytes (text s t) w) _ (to p t) _ _ (eq_same (text s t) w k.is) refl)
 
-    pub natural_takes : (p : Position) (t : Token) → next p.offset ≡ Got t → Numeral s t → natural next s p ≡ done t (to p t)
+    pub natural_takes : (p : Position) (t : Token) → next p.offset ≡ Ok t → Numeral s t → natural next s p ≡ done t (to p t)
     unfolding natural
     natural_takes p t e k = after_go _ _ t (to p t) _ (atom_takes p t e k.atom) (require_go (numeral (text s t)) _ (to p t) _ _ k.is refl)
 
 -- With the reserved words and the forms of an edition.
 module _ (E : Edition) (s : List ℕ) where
-  pub name_takes : (p : Position) (t : Token) → E.tokens s p.offset ≡ Got t → Name E s t → name E s p ≡ done t (to p t)
+  pub name_takes : (p : Position) (t : Token) → E.tokens s p.offset ≡ Ok t → Name E s t → name E s p ≡ done t (to p t)
   unfolding name
   name_takes p t e k =
       after_go _ _ t (to p t) _ (atom_takes (E.tokens s) p t e k.atom)
@@ -72,7 +72,7 @@ module _ (E : Edition) (s : List ℕ) where
       (require_go (identifier (text s t)) _ (to p t) _ _ k.is refl))
 
   -- What terms begin with.
-  pub begins_leaf : (p : Position) (t : Token) (f : Form) → E.tokens s p.offset ≡ Got t → Tag E s f alone t → beginning E s p ≡ done (leaf (label_alone f t.start)) (to p t)
+  pub begins_leaf : (p : Position) (t : Token) (f : Form) → E.tokens s p.offset ≡ Ok t → Tag E s f alone t → beginning E s p ≡ done (leaf (label_alone f t.start)) (to p t)
   unfolding beginning beginning_on known bare
   begins_leaf p t f e g =
       after_go _ _ t (to p t) _ (token_takes (E.tokens s) p t e)
@@ -80,7 +80,7 @@ module _ (E : Edition) (s : List ℕ) where
       ∙ ap (λ (o : Option Form). known E s (λ f. bare E s t f f.shape) t o (to p t)) g.is
       ∙ ap (λ (c : Shape). bare E s t f c (to p t)) g.shape)
 
-  begins_tag : (p : Position) (o t : Token) (f : Form) (c : Shape) (r : Result Beginning) → E.tokens s p.offset ≡ Got o → Opens o → E.tokens s o.end ≡ Got t → Tag E s f c t
+  begins_tag : (p : Position) (o t : Token) (f : Form) (c : Shape) (r : Result Beginning) → E.tokens s p.offset ≡ Ok o → Opens o → E.tokens s o.end ≡ Ok t → Tag E s f c t
       → tagged E s o t f c (to (to p o) t) ≡ r → beginning E s p ≡ r
   unfolding beginning beginning_on known
   begins_tag p o t f c r e k h g z =

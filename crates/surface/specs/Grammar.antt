@@ -1,11 +1,9 @@
 -- Document 01, "The module read", and document 02, Req 10: which tokens are a module, a declaration, a term, production by production.
-use Rattle.std.specs.Prelude.{◌≡◌, List, [], ◌∷◌, true, false, ℕ, suc, ◌-◌}
+use Rattle.std.specs.Prelude.{◌≡◌, List, [], ◌∷◌, true, false, ℕ, suc, ◌-◌, Ok}
 use Rattle.std.proofs.Math.Option.{none, some}
-use Rattle.token.specs.Token.{next_token}
+use Rattle.token.specs.Token.{next_token, Lexed}
 use Rattle.token.specs.declared.TokenKind.{TokenKind}
 use Rattle.token.specs.declared.Token.{Token}
-use Rattle.token.specs.declared.Lexed.{Lexed}
-use Rattle.token.specs.declared.Lexed.TheVariants.{Got}
 use Rattle.words.specs.Words.{ascii, identifier, numeral}
 use Rattle.terms.specs.Forms.{Shape, alone, with_name, with_numeral, binding, plain, Form, Edition, edition_0_1, edition_0_2, form_of_word}
 use Rattle.terms.specs.Tree.{Forest, nil, node, Tree, tree}
@@ -14,8 +12,8 @@ use Rattle.surface.specs.Text.{text, label_with, label_alone}
 
 -- The tokens from an offset on are ts, and then comes the end token; `next` gives the one at or behind an offset.
 pub data Tokens (next : ℕ → Lexed) : ℕ → List Token → Type 0 where
-  the_end : {at : ℕ} {t : Token} → next at ≡ Got t → t.kind ≡ TokenKind.Eof → Tokens next at []
-  the_next : {at : ℕ} {t : Token} {ts : List Token} → next at ≡ Got t → ¬ (t.kind ≡ TokenKind.Eof) → Tokens next t.end ts → Tokens next at (t ∷ ts)
+  the_end : {at : ℕ} {t : Token} → next at ≡ Ok t → t.kind ≡ TokenKind.Eof → Tokens next at []
+  the_next : {at : ℕ} {t : Token} {ts : List Token} → next at ≡ Ok t → ¬ (t.kind ≡ TokenKind.Eof) → Tokens next t.end ts → Tokens next at (t ∷ ts)
 
 abbrev pub Opens : Token → Type 0
 Opens t = t.kind ≡ TokenKind.LParen

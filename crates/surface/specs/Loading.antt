@@ -1,12 +1,12 @@
 -- Document 01, "When nothing is loaded": the answer and the four tables, from a source and the tables' lengths.
-use Rattle.std.specs.Prelude.{◌≡◌, List, [], not, ℕ, ◌/◌, leb, eqb, length}
+use Rattle.token.specs.declared.Class.{Class}
+use Rattle.std.specs.Prelude.{◌≡◌, List, [], not, ℕ, ◌/◌, leb, eqb, length, Err}
 use Rattle.std.proofs.Math.Option.{Option, none, some}
 use Rattle.utf8.specs.Utf8.{valid_length, byte_order_mark}
 use Rattle.terms.specs.Label.{Declaration}
 use Rattle.terms.specs.Resolution.{RefusedName, first_refused, resolve_module}
 use Rattle.terms.specs.Rows.{surface_rows, core_rows, declaration_records}
-use Rattle.surface.specs.declared.Answer.{Answer}
-use Rattle.surface.specs.declared.Answer.TheVariants.{Loaded, Refused}
+use Rattle.surface.specs.Answer.{Answer, loaded}
 use Rattle.surface.specs.Reader.{start, Result, done, refused, Reader, ◌>>=◌, ◌>>◌, pure, refuse, position, require, nowhere, at_offset}
 use Rattle.surface.specs.Reading.{read_module}
 pub use Rattle.surface.specs.Reports.{Report, offsets, report_refusal, report}
@@ -22,10 +22,10 @@ frame_limit = 512
 -- "11 work area under 16,384 words", "6 source over 65,535 bytes".
 unfoldable pub parsing : List ℕ → Lengths → Reader (List Declaration)
 parsing s z = do
-  require (leb 16384 z.work) (nowhere 11)
-  require (leb (length s) 65535) (nowhere 6)
-  require (eqb (valid_length s) (length s)) (at_offset 1 (valid_length s))
-  require (not (byte_order_mark s)) (at_offset 1 0)
+  require (leb 16384 z.work) (nowhere Class.WorkShort)
+  require (leb (length s) 65535) (nowhere Class.LongSource)
+  require (eqb (valid_length s) (length s)) (at_offset Class.Malformed (valid_length s))
+  require (not (byte_order_mark s)) (at_offset Class.Malformed 0)
   read_module s (z.surface / 8) (z.declarations / 5) frame_limit
 
 -- ".. 10": all that comes before names are looked at. "10 core table has fewer rows than were read"
@@ -33,7 +33,7 @@ unfoldable pub reading : List ℕ → Lengths → Reader (List Declaration)
 reading s z = do
   ds ← parsing s z
   p ← position
-  require (leb p.rows (z.core / 8)) (nowhere 10)
+  require (leb p.rows (z.core / 8)) (nowhere Class.CoreShort)
   pure ds
 
 -- "4 declaration name used before, nowhere", "5 unknown name, nowhere": the name itself is dropped.
@@ -53,10 +53,10 @@ abbrev pub Outcome : Type 0
 Outcome = Left Answer Tables
 
 abbrev pub outcome : List ℕ → Lengths → Result (List Declaration) → Outcome
-outcome s z (refused r) = leaves (Refused r) (blank z)
+outcome s z (refused r) = leaves (Err r) (blank z)
 outcome s z (done ds p) =
     let m = resolve_module s [] ds in
-    leaves (Loaded p.rows (length ds)) (holding z (surface_rows 0 ds) (core_rows 0 m) (declaration_records 0 m))
+    leaves (loaded p.rows (length ds)) (holding z (surface_rows 0 ds) (core_rows 0 m) (declaration_records 0 m))
 
 unfoldable pub load : List ℕ → Lengths → Outcome
 load s z = outcome s z (loading s z start)

@@ -1,8 +1,9 @@
 -- Readers: what stands next, or the first refusal that is met.
 use Rattle.std.specs.Prelude.{Bool, true, false, ℕ}
 use Rattle.token.specs.declared.Token.{Token}
-use Rattle.token.specs.declared.Place.TheVariants.{At, Nowhere}
+use Rattle.token.specs.declared.Class.{Class}
 use Rattle.token.specs.declared.Refusal.{Refusal}
+pub use Rattle.token.specs.Refusals.{nowhere, at_offset}
 
 infixl 10 ◌>>=◌ ◌>>◌
 -- How far reading is: the offset, and how many rows are stored.
@@ -48,13 +49,6 @@ abbrev pub require : Bool → Refusal → Reader (Unit {0})
 require true r = pure tt
 require false r = refuse r
 
--- "A refusal carries its class and a place, which is an offset or nowhere."
-abbrev pub nowhere : ℕ → Refusal
-nowhere c = record { class = c; place = Nowhere }
-
-abbrev pub at_offset : ℕ → ℕ → Refusal
-at_offset c p = record { class = c; place = At p }
-
 -- At the first byte of a token.
-abbrev pub at_token : ℕ → Token → Refusal
+abbrev pub at_token : Class → Token → Refusal
 at_token c t = at_offset c t.start

@@ -1,11 +1,10 @@
 -- Document 01, "The module read" and "When nothing is loaded", and document 02, Req 10: reading order, as a plain recursive reader.
-use Rattle.std.specs.Prelude.{List, [], ◌∷◌, Bool, true, false, not, ◌&&◌, cond, ℕ, zero, suc, ◌-◌, ltb}
+use Rattle.token.specs.declared.Class.{Class}
+use Rattle.std.specs.Prelude.{List, [], ◌∷◌, Bool, true, false, not, ◌&&◌, cond, ℕ, zero, suc, ◌-◌, ltb, Ok, Err}
 use Rattle.std.proofs.Math.Option.{Option, none, some}
-use Rattle.token.specs.Token.{next_token}
+use Rattle.token.specs.Token.{next_token, Lexed}
 use Rattle.token.specs.declared.TokenKind.{TokenKind}
 use Rattle.token.specs.declared.Token.{Token}
-use Rattle.token.specs.declared.Lexed.{Lexed}
-use Rattle.token.specs.declared.Lexed.TheVariants.{Got, Refused}
 use Rattle.words.specs.Words.{ascii, same_bytes, identifier, numeral}
 use Rattle.terms.specs.Forms.{Shape, alone, with_name, with_numeral, binding, plain, Form, Edition, edition_0_1, edition_0_2, form_of_word}
 use Rattle.terms.specs.Tree.{Forest, nil, Tree, tree}
@@ -24,7 +23,7 @@ module _ (beginning : Reader Beginning) (close : Reader Token) (limit : ℕ) whe
   unfoldable pub store : Tree Label → Reader (Tree Label)
   store t = do
     p ← position
-    require (ltb p.rows limit) (nowhere 8)
+    require (ltb p.rows limit) (nowhere Class.SurfaceFull)
     move_to (record { offset = p.offset; rows = suc p.rows })
     pure t
 
@@ -49,14 +48,14 @@ module _ (beginning : Reader Beginning) (close : Reader Token) (limit : ℕ) whe
   unfoldable pub term : ℕ → Reader (Tree Label)
   term zero = do
     b ← beginning
-    finish (λ n. refuse (nowhere 7)) b
+    finish (λ n. refuse (nowhere Class.Frames)) b
   term (suc frames) = do
     b ← beginning
     finish (several (term frames)) b
 
 abbrev pub lexed : ℕ → Lexed → Result Token
-lexed rows (Refused r) = refused r
-lexed rows (Got t) = done t (record { offset = t.end; rows = rows })
+lexed rows (Err r) = refused r
+lexed rows (Ok t) = done t (record { offset = t.end; rows = rows })
 
 -- Tokens, given the one at or behind an offset. "1 malformed, with offset: that byte's, else the first byte of the token that doesn't fit"
 module _ (next : ℕ → Lexed) where
@@ -66,32 +65,32 @@ module _ (next : ℕ → Lexed) where
   unfoldable pub opening : Reader Token
   opening = do
     t ← token
-    require (is_open t.kind) (at_token 1 t)
+    require (is_open t.kind) (at_token Class.Malformed t)
     pure t
 
   unfoldable pub closing : Reader Token
   closing = do
     t ← token
-    require (is_close t.kind) (at_token 1 t)
+    require (is_close t.kind) (at_token Class.Malformed t)
     pure t
 
   unfoldable pub atom : Reader Token
   atom = do
     t ← token
-    require (is_atom t.kind) (at_token 1 t)
+    require (is_atom t.kind) (at_token Class.Malformed t)
     pure t
 
   module _ (s : List ℕ) where
     unfoldable pub word : List ℕ → Reader Token
     word w = do
       t ← atom
-      require (same_bytes (text s t) w) (at_token 1 t)
+      require (same_bytes (text s t) w) (at_token Class.Malformed t)
       pure t
 
     unfoldable pub natural : Reader Token
     natural = do
       t ← atom
-      require (numeral (text s t)) (at_token 1 t)
+      require (numeral (text s t)) (at_token Class.Malformed t)
       pure t
 
 -- "declaration record: kind (postulate 1, transparent 2, opaque 3)": the kind of a declaration's word, 0 for any other word.
@@ -108,21 +107,21 @@ module _ (E : Edition) (s : List ℕ) where
   unfoldable pub name : Reader Token
   name = do
     t ← atom (E.tokens s)
-    require (not (E.reserved (text s t))) (at_token 3 t)
-    require (identifier (text s t)) (at_token 1 t)
+    require (not (E.reserved (text s t))) (at_token Class.ReservedName t)
+    require (identifier (text s t)) (at_token Class.Malformed t)
     pure t
 
   -- The form f of a word t that stands without a parenthesis.
   unfoldable pub bare : Token → Form → Shape → Reader Beginning
   bare t f alone = pure (leaf (label_alone f t.start))
-  bare t f with_name = refuse (at_token 1 t)
-  bare t f with_numeral = refuse (at_token 1 t)
-  bare t f binding = refuse (at_token 1 t)
-  bare t f plain = refuse (at_token 1 t)
+  bare t f with_name = refuse (at_token Class.Malformed t)
+  bare t f with_numeral = refuse (at_token Class.Malformed t)
+  bare t f binding = refuse (at_token Class.Malformed t)
+  bare t f plain = refuse (at_token Class.Malformed t)
 
   -- The form f of a word t behind the parenthesis o.
   unfoldable pub tagged : Token → Token → Form → Shape → Reader Beginning
-  tagged o t f alone = refuse (at_token 1 t)
+  tagged o t f alone = refuse (at_token Class.Malformed t)
   tagged o t f with_name = do
     x ← name
     c ← closing (E.tokens s)
@@ -137,17 +136,17 @@ module _ (E : Edition) (s : List ℕ) where
   tagged o t f plain = pure (frame (label_alone f o.start) f.arity)
 
   unfoldable pub known : (Form → Reader Beginning) → Token → Option Form → Reader Beginning
-  known k t none = refuse (at_token 1 t)
+  known k t none = refuse (at_token Class.Malformed t)
   known k t (some f) = k f
 
   unfoldable pub beginning_on : Token → TokenKind → Reader Beginning
   beginning_on t TokenKind.LParen = do
     w ← atom (E.tokens s)
     known (λ f. tagged t w f f.shape) w (form_of_word (text s w) E.forms)
-  beginning_on t TokenKind.RParen = refuse (at_token 1 t)
+  beginning_on t TokenKind.RParen = refuse (at_token Class.Malformed t)
   beginning_on t TokenKind.Atom = known (λ f. bare t f f.shape) t (form_of_word (text s t) E.forms)
-  beginning_on t TokenKind.String = refuse (at_token 1 t)
-  beginning_on t TokenKind.Eof = refuse (at_token 1 t)
+  beginning_on t TokenKind.String = refuse (at_token Class.Malformed t)
+  beginning_on t TokenKind.Eof = refuse (at_token Class.Malformed t)
 
   -- What stands at the beginning of a term.
   unfoldable pub beginning : Reader Beginning
@@ -168,7 +167,7 @@ module _ (E : Edition) (s : List ℕ) where
     module _ (declared_name : Reader Token) (ends : TokenKind → Bool) where
       -- A declaration of some kind behind its word t.
       unfoldable pub declared : Token → ℕ → Reader Declaration
-      declared t zero = refuse (at_token 1 t)
+      declared t zero = refuse (at_token Class.Malformed t)
       declared t (suc k) = do
         x ← declared_name
         a ← whole_term
@@ -184,7 +183,7 @@ module _ (E : Edition) (s : List ℕ) where
 
       unfoldable pub ending : Token → TokenKind → Reader (List Declaration)
       ending t k = do
-        require (ends k) (at_token 1 t)
+        require (ends k) (at_token Class.Malformed t)
         pure []
 
       -- Declarations to the end, given the reader of those behind an opening parenthesis t.
@@ -200,7 +199,7 @@ module _ (E : Edition) (s : List ℕ) where
       unfoldable pub declarations : ℕ → Reader (List Declaration)
       declarations zero = do
         t ← token (E.tokens s)
-        onwards (refuse (nowhere 9)) t t.kind
+        onwards (refuse (nowhere Class.DeclarationsFull)) t t.kind
       declarations (suc n) = do
         t ← token (E.tokens s)
         onwards (do
@@ -221,7 +220,7 @@ edition_of a b =
 
 -- "Refusal 2 is now for source versions other than 0 1 and 0 2": "nowhere, given after its closing parenthesis"
 unfoldable pub supported : Option Edition → Reader Edition
-supported none = refuse (nowhere 2)
+supported none = refuse (nowhere Class.Version)
 supported (some E) = pure E
 
 module _ (s : List ℕ) where

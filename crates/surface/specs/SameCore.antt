@@ -1,19 +1,18 @@
 -- Document 01, "The core module": *same core*, of the core tables and declaration lists that two calls leave.
-use Rattle.std.specs.Prelude.{◌≡◌, List, map, ℕ}
+use Rattle.std.specs.Prelude.{◌≡◌, List, map, ℕ, Ok, Err}
 use Rattle.terms.specs.Rows.{first_rows}
 use Rattle.terms.specs.Content.{row_content, record_content}
-use Rattle.surface.specs.declared.Answer.{Answer}
-use Rattle.surface.specs.declared.Answer.TheVariants.{Loaded, Refused}
+use Rattle.surface.specs.Answer.{Answer, loaded}
 use Rattle.surface.specs.Loading.{Outcome}
 
 -- The counts that an answer gives.
 abbrev pub row_count : Answer → ℕ
-row_count (Loaded rows declarations) = rows
-row_count (Refused r) = 0
+row_count (Ok l) = l.rows
+row_count (Err r) = 0
 
 abbrev pub declaration_count : Answer → ℕ
-declaration_count (Loaded rows declarations) = declarations
-declaration_count (Refused r) = 0
+declaration_count (Ok l) = l.declarations
+declaration_count (Err r) = 0
 
 -- "equal counts of rows and of declarations, and up to these counts equal rows (universe compared by digits) and equal declarations
 -- (names compared by bytes)": of a call for the source s and one for the source t.
@@ -27,4 +26,4 @@ pub record SameCore (s : List ℕ) (a : Outcome) (t : List ℕ) (b : Outcome) : 
 
 -- The call accepts its source.
 abbrev pub Accepts : Outcome → Type 0
-Accepts o = (rows declarations : ℕ) × (o.answer ≡ Loaded rows declarations)
+Accepts o = (rows declarations : ℕ) × (o.answer ≡ loaded rows declarations)

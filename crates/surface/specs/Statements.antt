@@ -1,6 +1,6 @@
 -- The headline statements, each as a type, with the definitions that only they use; surface/proofs/Statements.antt has a proof of each.
 -- The starred readings stand in Card.
-use Rattle.std.specs.Prelude.{◌≡◌, ◌↔◌, List, [], ◌∷◌, map, false, ℕ, ◌/◌, ◌≤◌, length}
+use Rattle.std.specs.Prelude.{◌≡◌, ◌↔◌, List, [], ◌∷◌, map, false, ℕ, ◌/◌, ◌≤◌, length, Err}
 use Rattle.std.proofs.Math.Option.{none}
 use Rattle.token.specs.declared.Refusal.{Refusal}
 use Rattle.utf8.specs.Utf8.{byte_order_mark, WellFormed}
@@ -8,7 +8,7 @@ use Rattle.terms.specs.Label.{Declaration}
 use Rattle.terms.specs.Resolution.{first_refused}
 use Rattle.terms.specs.Rows.{first_rows}
 use Rattle.terms.specs.Offsets.{eighth_word, offsets_of, ModuleBegins}
-use Rattle.surface.specs.declared.Answer.{Answer}
+use Rattle.surface.specs.Answer.{Answer}
 use Rattle.surface.specs.Grammar.{Derives}
 use Rattle.surface.specs.Reader.{Position, start, Result, done, refused}
 use Rattle.surface.specs.Reading.{read_module}
@@ -67,7 +67,7 @@ Acceptable s z = (ds : List Declaration) × Readable s ds × Enough z ds × (fir
 abbrev pub Demand1 : Type 0
 Demand1 =
     (s : List ℕ) (before : Tables) (a : Answer) (after : Tables) → Loads s before a after
-    → (Accepts (leaves a after) ↔ Acceptable s (lengths before)) × ((r : Refusal) → a ≡ Answer.Refused r → after ≡ blank (lengths before))
+    → (Accepts (leaves a after) ↔ Acceptable s (lengths before)) × ((r : Refusal) → a ≡ Err r → after ≡ blank (lengths before))
 
 -- DEMAND 3, about what two calls leave. `Loads` is the promise of `load`, so of any two calls that accept their sources, with tables of any
 -- lengths and former contents: what they leave is the same core exactly if the two sources agree.

@@ -1,11 +1,9 @@
 // From a source to its module, and what loading it leaves: the answers, with their definitions and theorems.
 #![tactic(auto)]
 
-use token::Refusal;
-
-// The answer of loading: the counts of rows and of declarations, or the refusal.
-#[derive(Clone, Copy)]
-pub enum Answer {
-    Loaded { rows: usize, declarations: usize },
-    Refused(Refusal),
+// How many rows and declarations an accepted source leaves.
+#[derive(Clone, Copy, Debug, PartialEq, Eq)]
+pub struct Loaded {
+    pub rows: usize,
+    pub declarations: usize,
 }

@@ -2,11 +2,11 @@
 use Prim.Native.Nat.{ℕ, ◌+◌, ◌≤◌, ◌<◌}
 use mathlib.Core.Path.{◌≡◌, sym, ap, ◌∙◌}
 use mathlib.Core.Bool.{Bool, cond}
-use mathlib.Core.List.{List, ◌++◌}
+use mathlib.Core.List.{List}
 use native.Mathlib.Omega.{arith}
 use native.Mathlib.Numerals.{add-one}
-use lib.ListN.{length, get_or, take, drop, set}
-use lib.Seq.{paste, paste-zero, paste-suc, take-length}
+use lib.ListN.{length, get_or, set}
+use lib.Seq.{paste, paste-suc}
 use borrow.Author.Tests.{le-leb, lt-leb}
 use Rattle.tables.specs.Tables.{with_words, stored}
 
@@ -15,9 +15,6 @@ module _ (t : List ℕ) (at : ℕ) (ws : List ℕ) where
   abbrev pub Storing : List ℕ → ℕ → Type 0
   Storing t₁ i = (i ≤ length ws) × (t₁ ≡ paste t at ws i)
 
-  pub store_none : Storing t 0
-  store_none = (omega arith, paste-zero t at ws)
-
   pub stored_fits : at + length ws ≤ length t → stored t at ws ≡ with_words t at ws
   unfolding stored
   stored_fits h = ap (λ (b : Bool). cond b (with_words t at ws) t) (le-leb (at + length ws) (length t) h)
@@ -25,11 +22,6 @@ module _ (t : List ℕ) (at : ℕ) (ws : List ℕ) where
   pub stored_not : length t < at + length ws → stored t at ws ≡ t
   unfolding stored
   stored_not h = ap (λ (b : Bool). cond b (with_words t at ws) t) (lt-leb (at + length ws) (length t) h)
-
-  pub store_all : (t₁ : List ℕ) (i : ℕ) → length ws ≤ i → Storing t₁ i → t₁ ≡ with_words t at ws
-  store_all t₁ i k s =
-      let e : i ≡ length ws = omega (arith, s.0) in
-      s.1 ∙ ap (paste t at ws) e ∙ ap (λ (l : List ℕ). take at t ++ l ++ drop (at + length ws) t) (take-length ws)
 
   module _ (h : at + length ws ≤ length t) where
     pub store_more : (t₁ : List ℕ) (i : ℕ) → i < length ws → Storing t₁ i → Storing (set t₁ (at + i) (get_or ws i 0)) (i + 1)

@@ -1,4 +1,5 @@
 -- A term is read with as many frames as its tree has open together, and with no fewer.
+use Rattle.token.specs.declared.Class.{Class}
 use mathlib.Core.Path.{◌≡◌, refl, sym, ◌∙◌, ap, subst}
 use mathlib.Core.Bool.{Bool, true, false}
 use Prim.Native.Nat.{ℕ, zero, suc, ◌≤◌}
@@ -127,7 +128,7 @@ module _ (beginning : Reader Beginning) (close : Reader Token) (limit : ℕ) whe
   term_reads arities (suc f) zero p q t e k =
       begun_as _ _ 0 (λ m i u v a z w. none m i u v a z w) arities p q t e k
     where
-      none : (m : ℕ) → 1 ≤ m → (u v : Position) (a : Forest Label) → several beginning close limit (term beginning close limit f) m u ≡ done a v → opens a (suc (frames_of a)) ≤ 0 → refuse (nowhere 7) u ≡ done a v
+      none : (m : ℕ) → 1 ≤ m → (u v : Position) (a : Forest Label) → several beginning close limit (term beginning close limit f) m u ≡ done a v → opens a (suc (frames_of a)) ≤ 0 → refuse (nowhere Class.Frames) u ≡ done a v
       none (suc m) i u v nil z w = some_argument (term beginning close limit f) m u v z
       none (suc m) i u v (node l a r) z w = absurd (omega arith)
       none zero i u v a z w = absurd (omega arith)

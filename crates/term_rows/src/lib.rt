@@ -1,7 +1,7 @@
 // What both readers of terms share: the answer for a term, the bounds within which one is read, and the row of one that was read.
 #![tactic(auto)]
 
-ghost use Rattle.std.specs.Prelude.{◌≡◌, max, take};
+ghost use Rattle.std.specs.Prelude.{◌≡◌, take};
 ghost use Rattle.terms.specs.Forms.{holds_span_in};
 ghost use Rattle.terms.specs.Rows.{row_holding};
 ghost use Rattle.expects.specs.Formats.{edition};
@@ -9,44 +9,24 @@ ghost use Rattle.term_rows.specs.TermRows.{within};
 
 use expects::Format;
 use terms::Label;
-use token::Refusal;
 
 // What the words of a row can count.
 const LONGEST: usize = 4294967295;
 
-// A term that was read: its row, how many rows are stored, where reading goes on, and how many frames were open at most; or the refusal.
-#[derive(Clone, Copy)]
-pub enum TermRead {
-    Done {
-        row: u32,
-        rows: usize,
-        next: usize,
-        frames: usize,
-    },
-    Refused(Refusal),
-}
-
-// The greater of two numbers of frames.
-pub fn deeper(a: usize, b: usize) -> usize
-    ensures { result ≡ max a b }
-{
-    if a < b {
-        return b;
-    }
-    a
+// A term that was read: its row, how many rows are stored, where reading goes on, and how many frames were open at most.
+#[derive(Clone, Copy, Debug, PartialEq, Eq)]
+pub struct ReadTerm {
+    pub row: u32,
+    pub rows: usize,
+    pub next: usize,
+    pub frames: usize,
 }
 
 // The bounds that loading has tested before it reads; a call outside them reads nothing.
 pub fn is_within(source: usize, at: usize, rows: usize) -> bool
     ensures { result ≡ within source at rows }
 {
-    if LONGEST < source {
-        return false;
-    }
-    if source < at {
-        return false;
-    }
-    rows <= at
+    source <= LONGEST && at <= source && rows <= at
 }
 
 // Whether a term of each kind has the start and length of an atom in its row.

@@ -1,4 +1,5 @@
 -- Where resolution refuses no name, every declaration's name is new and every reference known.
+use Rattle.token.specs.declared.Class.{Class}
 use mathlib.Core.Path.{◌≡◌, refl, sym, ap, ◌∙◌}
 use mathlib.Core.List.{List, [], ◌∷◌, ◌++◌, map}
 use mathlib.Core.Option.{Option, none, some}
@@ -46,8 +47,8 @@ none_refused s g (d ∷ l) e = go (none_refused s (g ++ (declared_name s d ∷ [
     go : (rest ≡ none → resolves (g ++ (declared_name s d ∷ [])) (map (named_declaration s) l) ≡ true)
         → (a : Option ℕ) (b : Option Label) → find (declared_name s d) g ≡ a → first_unknown (resolve_declaration s g d) ≡ b
         → ◌≡◌ {A = Option RefusedName} (elim a as (λ _. Option RefusedName) [
-          | some i ↦ some (refused_name 4 d.start d.length)
-          | none ↦ elim b as (λ _. Option RefusedName) [ some u ↦ some (refused_name 5 u.start u.length) | none ↦ rest ]
+          | some i ↦ some (refused_name Class.DuplicateName d.start d.length)
+          | none ↦ elim b as (λ _. Option RefusedName) [ some u ↦ some (refused_name Class.UnknownName u.start u.length) | none ↦ rest ]
         ]) none
         → resolves g (map (named_declaration s) (d ∷ l)) ≡ true
     go ih (some i) b p q f = none_some (sym f)

@@ -1,8 +1,7 @@
 -- Document 01, "The module read", and document 02, Req 10: the forms of terms as one table, and the kinds' numbers.
 use Rattle.std.specs.Prelude.{List, [], ◌∷◌, Bool, true, false, cond, ℕ, eqb}
 use Rattle.std.proofs.Math.Option.{Option, none, some}
-use Rattle.token.specs.Token.{next_token}
-use Rattle.token.specs.declared.Lexed.{Lexed}
+use Rattle.token.specs.Token.{next_token, Lexed}
 use Rattle.words.specs.Words.{ascii, same_bytes, reserved, reserved_0_2}
 
 -- "Kinds: var 1, global 2, universe 3, pi 4, lam 5, .. sigma 7, .. ref 24": those that a definition speaks of by name.

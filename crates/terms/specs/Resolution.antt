@@ -1,4 +1,5 @@
 -- Document 01, "The core module", and document 02, Req 10: what each reference becomes, and the first name that is refused.
+use Rattle.token.specs.declared.Class.{Class}
 use Rattle.std.specs.Prelude.{List, [], ◌∷◌, ◌++◌, Bool, true, false, ◌&&◌, ◌||◌, cond, ℕ, zero, suc, eqb}
 use Rattle.std.proofs.Math.Option.{Option, none, some}
 use Rattle.words.specs.Words.{same_bytes}
@@ -110,11 +111,11 @@ first_unknown (node t a r) =
 
 -- A refused name: the class, and the span of the name that it is about.
 pub record RefusedName : Type 0 where
-  pub class : ℕ
+  pub class : Class
   pub start : ℕ
   pub length : ℕ
 
-abbrev pub refused_name : ℕ → ℕ → ℕ → RefusedName
+abbrev pub refused_name : Class → ℕ → ℕ → RefusedName
 refused_name c a n = record { class = c; start = a; length = n }
 
 -- "then declarations in order: 4, its type, its body, references left to right."
@@ -123,9 +124,9 @@ unfoldable pub first_refused : List ℕ → List Name → List Declaration → O
 first_refused s globals [] = none
 first_refused s globals (d ∷ l) =
     elim (find (declared_name s d) globals) [
-      | some i ↦ some (refused_name 4 d.start d.length)
+      | some i ↦ some (refused_name Class.DuplicateName d.start d.length)
       | none ↦ elim (first_unknown (resolve_declaration s globals d)) [
-        | some u ↦ some (refused_name 5 u.start u.length)
+        | some u ↦ some (refused_name Class.UnknownName u.start u.length)
         | none ↦ first_refused s (globals ++ (declared_name s d ∷ [])) l
       ]
     ]

@@ -2,7 +2,7 @@
 #![tactic(auto)]
 
 // A term's kind, the start and length of its name, numeral or binder, and its first byte's offset.
-#[derive(Clone, Copy)]
+#[derive(Clone, Copy, Debug, PartialEq, Eq)]
 pub struct Label {
     pub kind: u32,
     pub start: u32,

@@ -18,8 +18,8 @@ abbrev pub Putting : List ℕ → ℕ → List ℕ → List ℕ → ℕ → ℕ 
 Putting out₀ at bytes out pos i =
     (sets out₀ at bytes ≡ sets out (at + i) (drop i bytes)) × (pos ≡ length_in out₀ (at + i)) × (length out ≡ length out₀) × (i ≤ length bytes)
 
-pub put_start : (out : List ℕ) (at : ℕ) (bytes : List ℕ) → at ≤ length out → Putting out at bytes out at 0
-put_start out at bytes h = (ap (λ (k : ℕ). sets out k bytes) (sym (add-zero at)), omega arith, refl, omega arith)
+pub put_start : (out : List ℕ) (at : ℕ) (bytes : List ℕ) → Putting out at bytes out (length_in out at) 0
+put_start out at bytes = (ap (λ (k : ℕ). sets out k bytes) (sym (add-zero at)), omega arith, refl, omega arith)
 
 module _ (out₀ : List ℕ) (at : ℕ) (bytes : List ℕ) where
   pub put_more : (out : List ℕ) (pos i : ℕ) (out₁ : List ℕ) → i < length bytes → Putting out₀ at bytes out pos i

@@ -49,9 +49,9 @@ same_text {out} {at} {t} {u} {now} {behind} e p = subst (λ (l : List ℕ). Put 
 pub put_length : {out : List ℕ} {at : ℕ} {t now : List ℕ} {behind : ℕ} → Put out at t now behind → length now ≡ length out
 put_length {out} {at} {t} p = ap length p.content ∙ length-sets out at t
 
--- Behind a text nothing is put yet.
-pub put_none : {out : List ℕ} {at : ℕ} {t now : List ℕ} {behind : ℕ} → Put out at t now behind → Put now behind [] now behind
-put_none p = record { content = refl; offset = omega (arith, p.offset, put_length p) }
+-- Nothing is put yet at an offset that is cut at the buffer's end.
+pub put_start : (out : List ℕ) (at : ℕ) {behind : ℕ} → behind ≡ length_in out at → Put out at [] out behind
+put_start out at e = record { content = refl; offset = omega (arith, e) }
 
 -- A text put behind another: both are put.
 infixl 5 ◌then◌

@@ -22,17 +22,11 @@ pub fn put(out: &mut [u8], at: usize, bytes: &[u8]) -> usize
     ensures out_after { out.new ≡ sets out.old at bytes.now }
     ensures value { result ≡ length_in out.old (at + length bytes.now) }
 {
-    let n = out.len();
-    if n < at {
-        return n + 1;
+    let mut behind = at.min(out.len() + 1);
+    for byte in bytes {
+        behind = put_byte(out, behind, *byte);
     }
-    let mut pos = at;
-    let mut i = 0;
-    while i < bytes.len() {
-        pos = put_byte(out, pos, bytes[i]);
-        i += 1;
-    }
-    pos
+    behind
 }
 
 // The digits of n, of which there are at most so many.
@@ -52,6 +46,7 @@ fn put_digits(out: &mut [u8], at: usize, places: u8, n: u64) -> usize
 }
 
 // A number in decimal. Answers the offset behind it.
+#[tactic(auto, unfolding(crate::specs::Text::decimal))]
 pub fn put_decimal(out: &mut [u8], at: usize, n: u64) -> usize
     ensures out_after { out.new ≡ sets out.old at (decimal n) }
     ensures value { result ≡ length_in out.old (at + length (decimal n)) }

@@ -1,4 +1,5 @@
 -- Two atoms that follow each other stand apart: a byte at least lies between them, since an atom is taken as long as possible.
+use Rattle.std.specs.Prelude.{Ok, Err}
 use mathlib.Core.Path.{◌≡◌, refl, sym, ap, ◌∙◌, subst}
 use mathlib.Core.List.{List, [], ◌∷◌}
 use mathlib.Core.Bool.{true, false}
@@ -6,12 +7,11 @@ use Prim.Native.Nat.{ℕ, suc, ◌+◌, ◌<◌}
 use native.Mathlib.Omega.{arith}
 use lib.ListN.{length, drop}
 use lib.Seq.{drop-drop}
-use Rattle.token.specs.Token.{byte_class, layout_end, atom_from, token_here, next_token, malformed, token}
+use Rattle.token.specs.Token.{byte_class, layout_end, atom_from, token_here, next_token, malformed, token, Lexed}
 use Rattle.token.specs.declared.ByteClass.{ByteClass}
 use Rattle.token.specs.declared.ByteClass.TheVariants.{Layout, Comment, LParen, RParen, Atom, Refused}
 use Rattle.token.specs.declared.TokenKind.{TokenKind}
 use Rattle.token.specs.declared.Token.{Token}
-use Rattle.token.specs.declared.Lexed.{Lexed}
 use Rattle.token.proofs.Outcomes.{here_by}
 use Rattle.token.proofs.Bounds.{layout_span}
 
@@ -25,12 +25,12 @@ differ z = omega arith
 
 -- An atom that goes on at an offset, before the bytes of a list, ends k bytes later, where no atom byte stands.
 abbrev Ending : ℕ → ℕ → List ℕ → Lexed → Type 0
-Ending start at l (Lexed.Got t) = (k : ℕ) × (t.start ≡ start) × (t.end ≡ at + k) × NoAtom (drop k l)
-Ending start at l (Lexed.Refused r) = Unit {0}
+Ending start at l (Ok t) = (k : ℕ) × (t.start ≡ start) × (t.end ≡ at + k) × NoAtom (drop k l)
+Ending start at l (Err r) = Unit {0}
 
 one_on : (start at b : ℕ) (l : List ℕ) (x : Lexed) → Ending start (at + 1) l x → Ending start at (b ∷ l) x
-one_on start at b l (Lexed.Got t) (k, f, e, n) = (suc k, f, omega arith, n)
-one_on start at b l (Lexed.Refused r) h = tt
+one_on start at b l (Ok t) (k, f, e, n) = (suc k, f, omega arith, n)
+one_on start at b l (Err r) h = tt
 
 ends_by : (start at b : ℕ) (l : List ℕ) (k : ByteClass) → byte_class b ≡ k → (x : Lexed) → Ending start at (b ∷ l) x
     → Ending start at (b ∷ l) (elim k as (λ _. Lexed) [
@@ -56,12 +56,12 @@ atom_ending (b ∷ l) start at =
 
 -- A token begins where it was looked for; behind an atom no atom byte stands.
 abbrev Stands : List ℕ → ℕ → Lexed → Type 0
-Stands l at (Lexed.Got t) = (t.start ≡ at) × (t.kind ≡ TokenKind.Atom → (k : ℕ) × (t.end ≡ at + k) × NoAtom (drop k l))
-Stands l at (Lexed.Refused r) = Unit {0}
+Stands l at (Ok t) = (t.start ≡ at) × (t.kind ≡ TokenKind.Atom → (k : ℕ) × (t.end ≡ at + k) × NoAtom (drop k l))
+Stands l at (Err r) = Unit {0}
 
 stands_atom : (at b : ℕ) (l : List ℕ) (x : Lexed) → Ending at (at + 1) l x → Stands (b ∷ l) at x
-stands_atom at b l (Lexed.Got t) (k, f, e, n) = (f, λ _. (suc k, omega arith, n))
-stands_atom at b l (Lexed.Refused r) h = tt
+stands_atom at b l (Ok t) (k, f, e, n) = (f, λ _. (suc k, omega arith, n))
+stands_atom at b l (Err r) h = tt
 
 here_stands : (l : List ℕ) (at : ℕ) → Stands l at (token_here at l)
 unfolding token_here
@@ -70,7 +70,7 @@ here_stands (b ∷ l) at =
     here_by (Stands (b ∷ l) at) (byte_class b) at _ tt (λ e. (refl, λ f. absurd (differ cc))) (λ e. (refl, λ f. absurd (differ cc)))
     (stands_atom at b l (atom_from at (at + 1) l) (atom_ending l at (at + 1)))
 
-behind_atom : (s : List ℕ) (at : ℕ) (t : Token) → next_token s at ≡ Lexed.Got t → t.kind ≡ TokenKind.Atom → NoAtom (drop t.end s)
+behind_atom : (s : List ℕ) (at : ℕ) (t : Token) → next_token s at ≡ Ok t → t.kind ≡ TokenKind.Atom → NoAtom (drop t.end s)
 unfolding next_token
 behind_atom s at t e a =
     let p = layout_end false at (drop at s) in
@@ -80,12 +80,12 @@ behind_atom s at t e a =
 
 -- An atom that is found at an offset where no atom byte stands starts later.
 abbrev Later : ℕ → Lexed → Type 0
-Later at (Lexed.Got u) = u.kind ≡ TokenKind.Atom → at < u.start
-Later at (Lexed.Refused r) = Unit {0}
+Later at (Ok u) = u.kind ≡ TokenKind.Atom → at < u.start
+Later at (Err r) = Unit {0}
 
 later_from : (at p : ℕ) (l : List ℕ) (x : Lexed) → Stands l p x → at < p → Later at x
-later_from at p l (Lexed.Got u) w h = λ a. omega (arith, w.0)
-later_from at p l (Lexed.Refused r) w h = tt
+later_from at p l (Ok u) w h = λ a. omega (arith, w.0)
+later_from at p l (Err r) w h = tt
 
 late_by : (at : ℕ) (k : ByteClass) → (k ≡ Atom → ⊥) → (x : Lexed)
     → Later at (elim k as (λ _. Lexed) [
@@ -132,6 +132,6 @@ next_later s at n =
     layout_or (λ p. Later at (token_here p (drop p s))) at (drop at s)
     (λ p h. later_from at p (drop p s) (token_here p (drop p s)) (here_stands (drop p s) p) h) (here_later at (drop at s) n)
 
-pub atoms_apart : (s : List ℕ) (at : ℕ) (t u : Token) → next_token s at ≡ Lexed.Got t → t.kind ≡ TokenKind.Atom
-    → next_token s t.end ≡ Lexed.Got u → u.kind ≡ TokenKind.Atom → t.end < u.start
+pub atoms_apart : (s : List ℕ) (at : ℕ) (t u : Token) → next_token s at ≡ Ok t → t.kind ≡ TokenKind.Atom
+    → next_token s t.end ≡ Ok u → u.kind ≡ TokenKind.Atom → t.end < u.start
 atoms_apart s at t u e a f b = subst (Later t.end) f (next_later s t.end (behind_atom s at t e a)) b

@@ -1,4 +1,5 @@
 -- A token stands at or behind the offset that it was asked at, within the source; the end token's offset is the source's length.
+use Rattle.std.specs.Prelude.{Ok, Err}
 use Prim.Native.Nat.{ℕ, ◌+◌, ◌-◌, ◌≤◌, ◌<◌}
 use mathlib.Core.Path.{◌≡◌}
 use mathlib.Core.Bool.{Bool, true, false}
@@ -6,11 +7,10 @@ use mathlib.Core.List.{List, [], ◌∷◌}
 use native.Mathlib.Omega.{arith}
 use lib.ListN.{length, drop, length-drop}
 use lib.Dec.{eqb}
-use Rattle.token.specs.Token.{byte_class, layout_end, atom_from, token_here, next_token}
+use Rattle.token.specs.Token.{byte_class, layout_end, atom_from, token_here, next_token, Lexed}
 use Rattle.token.specs.declared.ByteClass.{ByteClass}
 use Rattle.token.specs.declared.ByteClass.TheVariants.{Layout, Comment, LParen, RParen, Atom, Refused}
 use Rattle.token.specs.declared.TokenKind.{TokenKind}
-use Rattle.token.specs.declared.Lexed.{Lexed}
 use Rattle.token.proofs.Outcomes.{atom_by, here_by}
 
 pub record Span (lo a e hi : ℕ) : Type 0 where
@@ -26,8 +26,8 @@ SpanOf TokenKind.String lo a e hi = Span lo a e hi
 SpanOf TokenKind.Eof lo a e hi = lo ≤ hi → (a ≡ hi) × (e ≡ hi)
 
 abbrev pub Within : ℕ → ℕ → Lexed → Type 0
-Within lo hi (Lexed.Got t) = SpanOf t.kind lo t.start t.end hi
-Within lo hi (Lexed.Refused r) = Unit
+Within lo hi (Ok t) = SpanOf t.kind lo t.start t.end hi
+Within lo hi (Err r) = Unit
 
 -- Layout goes on in two cases, and ends here in the others.
 layout_by : (P : ℕ → Type 0) (k : ByteClass) (at p q : ℕ) → P at → P p → P q

@@ -11,7 +11,7 @@ use Rattle.token.specs.Token.{byte_class, atom_from, token, malformed}
 use Rattle.token.specs.Classes.{class_number, Run, atom_stops, NameAt}
 use Rattle.token.specs.declared.ByteClass.TheVariants.{Atom}
 use Rattle.token.specs.declared.TokenKind.{TokenKind}
-use Rattle.token.proofs.Classes.{atom_class, refused_class, layout_number, comment_number, refused_number, atom_number}
+use Rattle.token.proofs.ClassNumbers.{atom_class, refused_class, layout_number, comment_number, refused_number, atom_number}
 use Rattle.token.proofs.Runs.{layout_stop, atom_word, atom_other, atom_stop, atom_end, here_word, next_at}
 
 -- A run with one byte more.

@@ -1,40 +1,29 @@
--- A comment that is passed over in blocks.
-use Prim.Native.Nat.{ℕ, zero, suc, ◌+◌, ◌≤◌, ◌<◌}
-use mathlib.Core.Path.{◌≡◌, refl, ◌∙◌, ap}
-use mathlib.Core.Bool.{true, not, and-eq-true_iff}
-use mathlib.Core.List.{List, [], ◌∷◌}
+-- A comment that is passed over in blocks, and then byte by byte.
+use Prim.Native.Nat.{ℕ, ◌+◌, ◌<◌}
+use mathlib.Core.Path.{◌≡◌, ◌∙◌, ap, sym}
+use mathlib.Core.Bool.{true, not, true≢false}
+use mathlib.Core.List.{List}
 use native.Mathlib.Omega.{arith}
-use lib.Dec.{eqb}
-use lib.ListN.{length, get_or, take, drop, length-drop}
-use lib.Seq.{drop-drop}
-use borrow.Author.Tests.{not-true}
-use Rattle.token.specs.Comments.{comment_end, every, no_end, SameComment}
+use lib.ListN.{length, get_or, drop}
+use borrow.Author.Tests.{eq-eqb}
+use Rattle.token.specs.Comments.{comment_end, no_end, SameComment}
+use Rattle.token.specs.Blocks.{Passed}
+use Rattle.token.proofs.Blocks.{same_from}
 use Rattle.token.proofs.Comments.{comment_more}
 
--- A comment goes on behind a list that does not break it.
-over : (n : ℕ) (l : List ℕ) (at : ℕ) → n ≤ length l → every no_end (take n l) ≡ true → comment_end at l ≡ comment_end (at + n) (drop n l)
-unfolding every comment_end
-over zero l at h e = ap (λ k. comment_end k l) (let q : at ≡ at + 0 = omega arith in q)
-over (suc n) [] at h e = absurd (omega arith)
-over (suc n) (b ∷ l) at h e =
-    let t = (and-eq-true_iff (not (eqb b 10)) (every no_end (take n l))).0 e in
-    rw (not-true (eqb b 10) t.0, comment_end) (over n l (at + 1) (omega arith) t.1 ∙ ap (λ k. comment_end k (drop n l)) (let q : at + 1 + n ≡ at + suc n = omega arith in q))
+not_ten : (b : ℕ) → no_end b ≡ true → b ≡ 10 → ⊥
+not_ten b e q = true≢false (sym e ∙ ap not (eq-eqb b 10 q))
 
 module _ (s : List ℕ) (at : ℕ) where
-  pub same_none : at ≤ length s → SameComment s at at
-  same_none h = record { low = omega arith; high = h; same = refl }
+  pub same_blocks : (r : ℕ) → Passed no_end s at r → SameComment s at r
+  same_blocks r p = record {
+    low = p.low;
+    high = p.high;
+    same = same_from (λ k. comment_end k (drop k s)) at r p.low (λ i l u. comment_more s i (omega (arith, p.high)) (not_ten (get_or s i 0) (p.bytes i l u)));
+  }
 
-  module _ (i : ℕ) (e : SameComment s at i) where
-    pub same_block : (n : ℕ) → i + n ≤ length s → every no_end (take n (drop i s)) ≡ true → SameComment s at (i + n)
-    same_block n h a =
-        record {
-          low = omega (arith, e.low);
-          high = h;
-          same = e.same ∙ over n (drop i s) i (omega (arith, length-drop i s)) a ∙ ap (comment_end (i + n)) (drop-drop n i s);
-        }
-
-    pub same_byte : i < length s → (get_or s i 0 ≡ 10 → ⊥) → SameComment s at (i + 1)
-    same_byte h b = record { low = omega (arith, e.low); high = omega arith; same = e.same ∙ comment_more s i h b }
+  pub same_byte : (i : ℕ) → SameComment s at i → i < length s → (get_or s i 0 ≡ 10 → ⊥) → SameComment s at (i + 1)
+  same_byte i e h b = record { low = omega (arith, e.low); high = omega arith; same = e.same ∙ comment_more s i h b }
 
   pub same_on : (i k : ℕ) → SameComment s at i → SameComment s i k → SameComment s at k
   same_on i k e f = record { low = omega (arith, e.low, f.low); high = f.high; same = e.same ∙ f.same }

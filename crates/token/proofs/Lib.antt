@@ -1,4 +1,4 @@
-pub mod Classes
+pub mod ClassNumbers
 pub mod ClassTable
 pub mod Runs
 mod Comments
@@ -7,7 +7,9 @@ pub mod Outcomes
 pub mod Bounds
 pub mod Parentheses
 pub mod Local
+pub mod Numbers
 pub mod Apart
+pub mod Chunks
 mod Blocks
 mod CommentBlocks
 mod SpaceBlocks

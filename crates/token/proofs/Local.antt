@@ -1,4 +1,5 @@
 -- A token depends on the bytes before its end, and an atom on the byte behind it too.
+use Rattle.std.specs.Prelude.{Ok, Err}
 use mathlib.Core.Path.{◌≡◌, refl, ap, ◌∙◌, subst}
 use mathlib.Core.List.{List, [], ◌∷◌}
 use mathlib.Core.Bool.{Bool, true, false}
@@ -7,12 +8,11 @@ use native.Mathlib.Omega.{arith}
 use lib.Dec.{eqb, ltb}
 use lib.ListN.{length, take, drop}
 use borrow.Author.Tests.{ltb-true, ltb-false}
-use Rattle.token.specs.Token.{byte_class, layout_end, atom_from, token_here, next_token}
+use Rattle.token.specs.Token.{byte_class, layout_end, atom_from, token_here, next_token, Lexed}
 use Rattle.token.specs.declared.ByteClass.{ByteClass}
 use Rattle.token.specs.declared.ByteClass.TheVariants.{Layout, Comment, LParen, RParen, Atom, Refused}
 use Rattle.token.specs.declared.TokenKind.{TokenKind}
 use Rattle.token.specs.declared.Token.{Token}
-use Rattle.token.specs.declared.Lexed.{Lexed}
 use Rattle.token.proofs.Outcomes.{atom_both, atom_by, here_both, here_by}
 use Rattle.token.proofs.Bounds.{layout_span}
 
@@ -90,17 +90,17 @@ Reach n TokenKind.Eof e = ⊥
 
 -- Such a token is the other one too.
 abbrev Before : ℕ → Lexed → Lexed → Type 0
-Before n (Lexed.Got t) y = Reach n t.kind t.end → y ≡ Lexed.Got t
-Before n (Lexed.Refused r) y = Unit {0}
+Before n (Ok t) y = Reach n t.kind t.end → y ≡ Ok t
+Before n (Err r) y = Unit {0}
 
 -- No token ends so early.
 abbrev Past : ℕ → Lexed → Type 0
-Past n (Lexed.Got t) = Reach n t.kind t.end → ⊥
-Past n (Lexed.Refused r) = Unit {0}
+Past n (Ok t) = Reach n t.kind t.end → ⊥
+Past n (Err r) = Unit {0}
 
 past_before : (n : ℕ) (x y : Lexed) → Past n x → Before n x y
-past_before n (Lexed.Got t) y h = λ i. absurd (h i)
-past_before n (Lexed.Refused r) y h = tt
+past_before n (Ok t) y h = λ i. absurd (h i)
+past_before n (Err r) y h = tt
 
 atom_past : (n start at : ℕ) (l : List ℕ) → n ≤ at → Past n (atom_from start at l)
 unfolding atom_from
@@ -136,14 +136,14 @@ here_local (suc k) at (b ∷ l) (d ∷ m) a =
     (before_same (at + 1 + k) (at + suc k) (atom_from at (at + 1) l) (atom_from at (at + 1) m) (omega arith) (atom_local k at (at + 1) l m a.1)))
 
 -- A token of a source is a token of any other with the same first n bytes, if it ends before these do, or is a parenthesis that ends with them.
-pub token_local : (n : ℕ) (s r : List ℕ) → Agree n s r → (at : ℕ) (t : Token) → next_token s at ≡ Lexed.Got t → Reach n t.kind t.end → next_token r at ≡ Lexed.Got t
+pub token_local : (n : ℕ) (s r : List ℕ) → Agree n s r → (at : ℕ) (t : Token) → next_token s at ≡ Ok t → Reach n t.kind t.end → next_token r at ≡ Ok t
 unfolding next_token
 token_local n s r a at t e h = go (ltb p n) refl
   where
     p : ℕ
     p = layout_end false at (drop at s)
 
-    go : (b : Bool) → ltb p n ≡ b → next_token r at ≡ Lexed.Got t
+    go : (b : Bool) → ltb p n ≡ b → next_token r at ≡ Ok t
     go false f = absurd (subst (Past n) e (here_past n p (drop p s) (omega (arith, ltb-false p n f))) h)
     go true f =
         let l : p < n = ltb-true p n f in

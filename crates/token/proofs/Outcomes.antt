@@ -4,11 +4,10 @@ use mathlib.Core.Path.{◌≡◌, refl}
 use mathlib.Core.Bool.{false}
 use mathlib.Core.List.{List, [], ◌∷◌}
 use lib.ListN.{drop}
-use Rattle.token.specs.Token.{token, malformed, byte_class, layout_end, atom_from, token_here, next_token}
+use Rattle.token.specs.Token.{token, malformed, byte_class, layout_end, atom_from, token_here, next_token, Lexed}
 use Rattle.token.specs.declared.ByteClass.{ByteClass}
 use Rattle.token.specs.declared.ByteClass.TheVariants.{Layout, Comment, LParen, RParen, Atom, Refused}
 use Rattle.token.specs.declared.TokenKind.{TokenKind}
-use Rattle.token.specs.declared.Lexed.{Lexed}
 
 -- What a byte of some class makes inside an atom that goes on as o, and where a token starts that is o if it is an atom.
 abbrev in_atom : ByteClass → ℕ → ℕ → Lexed → Lexed

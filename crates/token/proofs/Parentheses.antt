@@ -1,14 +1,14 @@
 -- At the start of a parenthesis stands its byte; it has no other.
+use Rattle.std.specs.Prelude.{Ok, Err}
 use Prim.Native.Nat.{ℕ, ◌+◌}
 use mathlib.Core.Path.{◌≡◌, refl, ◌∙◌, ap, subst}
 use mathlib.Core.List.{List, [], ◌∷◌}
 use mathlib.Core.Bool.{false}
 use lib.ListN.{take, drop}
-use Rattle.token.specs.Token.{byte_class, layout_end, atom_from, token_here, next_token}
+use Rattle.token.specs.Token.{byte_class, layout_end, atom_from, token_here, next_token, Lexed}
 use Rattle.token.specs.declared.TokenKind.{TokenKind}
 use Rattle.token.specs.declared.Token.{Token}
-use Rattle.token.specs.declared.Lexed.{Lexed}
-use Rattle.token.proofs.Classes.{open_byte, close_byte}
+use Rattle.token.proofs.ClassNumbers.{open_byte, close_byte}
 use Rattle.token.proofs.Outcomes.{atom_by, here_by}
 
 module _ (s : List ℕ) where
@@ -25,8 +25,8 @@ module _ (s : List ℕ) where
   ByteOf TokenKind.Eof a e = Unit {0}
 
   abbrev Shows : Lexed → Type 0
-  Shows (Lexed.Got t) = ByteOf t.kind t.start t.end
-  Shows (Lexed.Refused r) = Unit {0}
+  Shows (Ok t) = ByteOf t.kind t.start t.end
+  Shows (Err r) = Unit {0}
 
   atom_shows : (start at : ℕ) (l : List ℕ) → Shows (atom_from start at l)
   unfolding atom_from
@@ -44,8 +44,8 @@ module _ (s : List ℕ) where
   unfolding next_token
   token_shows at = let p = layout_end false at (drop at s) in here_shows p (drop p s) refl
 
-  pub open_here : (at : ℕ) (t : Token) → next_token s at ≡ Lexed.Got t → t.kind ≡ TokenKind.LParen → take 1 (drop t.start s) ≡ 40 ∷ []
+  pub open_here : (at : ℕ) (t : Token) → next_token s at ≡ Ok t → t.kind ≡ TokenKind.LParen → take 1 (drop t.start s) ≡ 40 ∷ []
   open_here at t e k = (subst (λ (x : TokenKind). ByteOf x t.start t.end) k (subst Shows e (token_shows at))).0
 
-  pub close_here : (at : ℕ) (t : Token) → next_token s at ≡ Lexed.Got t → t.kind ≡ TokenKind.RParen → (take 1 (drop t.start s) ≡ 41 ∷ []) × (t.end ≡ t.start + 1)
+  pub close_here : (at : ℕ) (t : Token) → next_token s at ≡ Ok t → t.kind ≡ TokenKind.RParen → (take 1 (drop t.start s) ≡ 41 ∷ []) × (t.end ≡ t.start + 1)
   close_here at t e k = subst (λ (x : TokenKind). ByteOf x t.start t.end) k (subst Shows e (token_shows at))

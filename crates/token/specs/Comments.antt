@@ -1,15 +1,10 @@
 -- Ours: a comment by itself, which `skip_layout` passes over at once.
-use Rattle.std.specs.Prelude.{ℕ, ◌+◌, ◌≤◌, List, [], ◌∷◌, ◌≡◌, Bool, true, false, not, ◌&&◌, eqb, length, drop}
+use Rattle.std.specs.Prelude.{ℕ, ◌+◌, ◌≤◌, List, [], ◌∷◌, ◌≡◌, Bool, true, false, not, eqb, length, drop}
 
 -- Where a comment ends that goes on at an offset, before the bytes of a list: at byte 10, or the end.
 unfoldable pub comment_end : ℕ → List ℕ → ℕ
 comment_end at [] = at
 comment_end at (b ∷ l) = elim (eqb b 10) [ true ↦ at | false ↦ comment_end (at + 1) l ]
-
--- Whether every byte of a list passes a test.
-unfoldable pub every : (ℕ → Bool) → List ℕ → Bool
-every p [] = true
-every p (b ∷ l) = p b && every p l
 
 -- Whether a comment goes on over a byte.
 abbrev pub no_end : ℕ → Bool

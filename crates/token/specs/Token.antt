@@ -1,12 +1,19 @@
 -- Document 01, "The token".
-use Rattle.std.specs.Prelude.{ℕ, ◌+◌, List, [], ◌∷◌, Bool, true, false, ◌&&◌, ◌||◌, cond, drop, leb, eqb}
+use Rattle.token.specs.declared.Class.{Class}
+use Rattle.std.specs.Prelude.{ℕ, ◌+◌, List, [], ◌∷◌, Bool, true, false, ◌&&◌, ◌||◌, cond, drop, leb, eqb, Option, Result, Ok, Err, Some}
 use Rattle.token.specs.declared.ByteClass.{ByteClass}
 use Rattle.token.specs.declared.ByteClass.TheVariants.{Layout, Comment, LParen, RParen, Atom, Refused}
 use Rattle.token.specs.declared.TokenKind.{TokenKind}
 use Rattle.token.specs.declared.Token.{Token}
-use Rattle.token.specs.declared.Place.TheVariants.{At}
 use Rattle.token.specs.declared.Refusal.{Refusal}
-use Rattle.token.specs.declared.Lexed.{Lexed}
+
+-- A token that was read, or the refusal.
+abbrev pub Lexed : Type 0
+Lexed = Result Token Refusal
+
+-- "A refusal carries its class and a place, which is an offset or nowhere."
+abbrev pub Place : Type 0
+Place = Option ℕ
 
 -- The bytes from low to high.
 abbrev pub within : ℕ → ℕ → ℕ → Bool
@@ -53,10 +60,10 @@ layout_end false at (b ∷ l) =
     ]
 
 abbrev pub malformed : ℕ → Lexed
-malformed at = Lexed.Refused (record { class = 1; place = At at })
+malformed at = Err (record { class = Class.Malformed; place = Some at })
 
 abbrev pub token : TokenKind → ℕ → ℕ → Lexed
-token k start end = Lexed.Got (record { kind = k; start = start; end = end })
+token k start end = Ok (record { kind = k; start = start; end = end })
 
 -- "An atom ends before a parenthesis, `;`, layout or the end; another byte inside it .. is refused at that byte's own offset."
 unfoldable pub atom_from : ℕ → ℕ → List ℕ → Lexed

@@ -1,7 +1,31 @@
 // The table of byte classes: "a table of 256 class numbers, one for each byte value" (document 02, Req 06).
+
+ghost use Rattle.std.specs.Prelude.{◌≡◌};
+ghost use Rattle.token.specs.Classes.{class_number, ClassTable};
+
+// The table, made where reading begins and handed down: where it is read as a constant, it is copied at each use.
+#[derive(Clone, Copy)]
+pub struct Classes {
+    numbers: [u8; 256],
+    ghost right: { ClassTable numbers },
+}
+
+impl Classes {
+    pub fn new() -> Classes {
+        Classes { numbers: NUMBERS }
+    }
+
+    // The number of a byte's class.
+    pub fn of(&self, b: u8) -> u8
+        ensures { result ≡ class_number b }
+    {
+        self.numbers[b as usize]
+    }
+}
+
 // 0 layout, 1 what begins a comment, 2 and 3 the parentheses, 4 refused; and of the bytes that make atoms 5 the `-`, which stands in no
 // name, 6 the digits, which begin none, and 7 the letters and `_`.
-pub const CLASSES: [u8; 256] = [
+const NUMBERS: [u8; 256] = [
     4, // 00
     4, // 01
     4, // 02

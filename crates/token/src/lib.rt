@@ -4,15 +4,17 @@
 
 mod byte_classes;
 
-ghost use Rattle.std.specs.Prelude.{◌≡◌, false, ◌+◌, ◌≤◌, ◌<◌, length, take, drop, get_or};
+ghost use Rattle.std.specs.Prelude.{◌≡◌, Bool, false, ℕ, ◌+◌, ◌≤◌, ◌<◌, length, drop, get_or};
 ghost use Rattle.token.specs.Token.{layout_end, atom_from, token_here, next_token};
-ghost use Rattle.token.specs.Classes.{class_number, ClassTable, SameLayout, space, LayoutOver, Run, atom_stops, NameAt};
-ghost use Rattle.token.specs.Comments.{every, no_end, comment_end, SameComment};
+ghost use Rattle.token.specs.Refusals.{number, nowhere, at_offset};
+ghost use Rattle.token.specs.Classes.{SameLayout, LayoutOver, Run, atom_stops, NameAt};
+ghost use Rattle.token.specs.Comments.{comment_end};
+ghost use Rattle.token.specs.Blocks.{every, Passed};
 
-use byte_classes::CLASSES;
+pub use byte_classes::Classes;
 
 // What a byte is for.
-#[derive(Clone, Copy)]
+#[derive(Clone, Copy, Debug, PartialEq, Eq)]
 pub enum ByteClass {
     Layout,
     Comment,
@@ -23,7 +25,7 @@ pub enum ByteClass {
 }
 
 // A string is a token of core text alone.
-#[derive(Clone, Copy)]
+#[derive(Clone, Copy, Debug, PartialEq, Eq)]
 pub enum TokenKind {
     LParen,
     RParen,
@@ -33,94 +35,112 @@ pub enum TokenKind {
 }
 
 // The bytes from `start` up to `end`; the end token has none.
-#[derive(Clone, Copy)]
+#[derive(Clone, Copy, Debug, PartialEq, Eq)]
 pub struct Token {
     pub kind: TokenKind,
     pub start: usize,
     pub end: usize,
 }
 
-#[derive(Clone, Copy)]
-pub enum Place {
-    At(usize),
-    Nowhere,
+// Why a source or a call is refused, with document 01's numbers.
+#[derive(Clone, Copy, Debug, PartialEq, Eq)]
+pub enum Class {
+    Malformed = 1,
+    Version = 2,
+    ReservedName = 3,
+    DuplicateName = 4,
+    UnknownName = 5,
+    LongSource = 6,
+    Frames = 7,
+    SurfaceFull = 8,
+    DeclarationsFull = 9,
+    CoreShort = 10,
+    WorkShort = 11,
+    NoDeclaration = 12,
+    CoreText = 13,
+    TextShort = 14,
 }
 
-// Why a source is refused: document 01's number, and where.
-#[derive(Clone, Copy)]
+impl Class {
+    pub fn number(self) -> u8
+        ensures { result ≡ number self }
+    {
+        self as u8
+    }
+}
+
+// A refusal: why, and where, which is an offset or nowhere.
+#[derive(Clone, Copy, Debug, PartialEq, Eq)]
 pub struct Refusal {
-    pub class: u8,
-    pub place: Place,
+    pub class: Class,
+    pub place: Option<usize>,
 }
 
-#[derive(Clone, Copy)]
-pub enum Lexed {
-    Got(Token),
-    Refused(Refusal),
+impl Refusal {
+    pub fn at(class: Class, offset: usize) -> Refusal
+        ensures { result ≡ at_offset class offset }
+    {
+        Refusal {
+            class,
+            place: Some(offset),
+        }
+    }
+
+    pub fn nowhere(class: Class) -> Refusal
+        ensures { result ≡ nowhere class }
+    {
+        Refusal { class, place: None }
+    }
 }
 
-// The numbers from which on a byte makes atoms, makes names, and begins one.
+// The class numbers of the table: from ATOM on a byte makes atoms, from NAME on names, and from BEGINS on it begins one.
+const LAYOUT: u8 = 0;
+
+const COMMENT: u8 = 1;
+
+const OPEN: u8 = 2;
+
+const CLOSE: u8 = 3;
+
+const REFUSED: u8 = 4;
+
 const ATOM: u8 = 5;
 
 const NAME: u8 = 6;
 
 const BEGINS: u8 = 7;
 
-// The table of byte classes, to be handed down from where reading begins: where it is read as a constant, it is copied at each use.
-pub fn class_table() -> [u8; 256]
-    ensures { ClassTable result }
-{
-    CLASSES
-}
-
 // How many bytes of a comment are looked at together, and how many before they are looked at one by one.
 const BLOCK: usize = 16;
 
 const HALF: usize = 8;
 
-// Whether a block of n bytes has no byte 10. This loop becomes a few instructions on the whole block.
-fn comment_block(s: &[u8], at: usize, n: usize) -> bool
-    requires { at + n ≤ length s.now }
-    ensures { result ≡ every no_end (take n (drop at s.now)) }
+// How many bytes of layout are looked at together.
+const INDENT: usize = 8;
+
+// Whether every byte of a block passes a test. For a block this loop becomes a few instructions on all of it.
+fn all_pass<F: Fn(u8) -> bool>(block: &[u8], passes: F) -> bool
+    requires { F.IsAlwaysCallable passes }
+    ensures { (p : ℕ → Bool) → ((b : ℕ) (r : Bool) → F.post passes b r → r ≡ p b) → result ≡ every p block.now }
 {
-    let mut all = true;
-    let mut i = 0;
-    while i < n {
-        if s[at + i] == 10 {
-            all = false;
-        }
-        i += 1;
-    }
-    all
+    block.iter().fold(true, |all, &b| all & passes(b))
 }
 
-// Behind the blocks from `at` on in which a comment goes on.
-fn comment_blocks(s: &[u8], at: usize) -> usize
-    requires { at ≤ length s.now }
-    ensures { SameComment s.now at result }
+// Behind the blocks of N bytes from `at` on whose bytes all pass a test.
+fn skip_blocks<const N: usize, F: Fn(u8) -> bool>(s: &[u8], at: usize, passes: F) -> usize
+    requires inside { at ≤ length s.now }
+    requires size { 0 < N }
+    requires callable { F.IsAlwaysCallable passes }
+    ensures { (p : ℕ → Bool) → ((b : ℕ) (r : Bool) → F.post passes b r → r ≡ p b) → Passed p s.now at result }
 {
-    let n = s.len();
-    let mut i = at;
-    while BLOCK <= n - i {
-        if !comment_block(s, i, BLOCK) {
-            return i;
+    let mut behind = at;
+    for block in s[at..].chunks_exact(N) {
+        if !all_pass(block, &passes) {
+            return behind;
         }
-        i += BLOCK;
+        behind += N;
     }
-    i
-}
-
-// The same for one half of a block.
-fn half_block(s: &[u8], at: usize) -> usize
-    requires { at ≤ length s.now }
-    ensures { SameComment s.now at result }
-{
-    if HALF <= s.len() - at {
-        if comment_block(s, at, HALF) {
-            return at + HALF;
-        }
-    }
-    at
+    behind
 }
 
 // Where the comment that `at` is in ends.
@@ -128,60 +148,27 @@ fn comment_end(s: &[u8], at: usize) -> usize
     requires { at ≤ length s.now }
     ensures { result ≡ comment_end at (drop at s.now) }
 {
-    let behind = comment_blocks(s, at);
-    let mut pos = half_block(s, behind);
-    while pos < s.len() {
-        if s[pos] == 10 {
+    let goes_on = |b| b != b'\n';
+    let blocks = skip_blocks::<BLOCK, _>(s, at, goes_on);
+    for pos in skip_blocks::<HALF, _>(s, blocks, goes_on)..s.len() {
+        if s[pos] == b'\n' {
             return pos;
         }
-        pos += 1;
     }
-    pos
-}
-
-// The number of the class of the byte at `at`.
-fn class_at(s: &[u8], classes: &[u8], at: usize) -> u8
-    requires class_table { ClassTable classes.now }
-    requires at_in_bounds { at < length s.now }
-    ensures { result ≡ class_number (get_or s.now at 0) }
-{
-    let b = s[at];
-    classes[b as usize]
+    s.len()
 }
 
 // Behind the bytes of layout from `at` on, up to the first `;` or what is no layout.
-pub fn skip_blank(s: &[u8], classes: &[u8], at: usize) -> usize
-    requires { ClassTable classes.now }
+pub fn skip_blank(s: &[u8], classes: &Classes, at: usize) -> usize
     ensures same_layout { SameLayout s.now at result }
     ensures lower_bound { at ≤ result }
 {
-    let mut pos = at;
-    while pos < s.len() {
-        if class_at(s, classes, pos) != 0 {
+    for pos in at..s.len() {
+        if classes.of(s[pos]) != LAYOUT {
             return pos;
         }
-        pos += 1;
     }
-    pos
-}
-
-// How many bytes of layout are looked at together.
-const INDENT: usize = 8;
-
-// Whether a block is spaces alone. This loop becomes one comparison.
-fn space_block(s: &[u8], at: usize) -> bool
-    requires { at + 8 ≤ length s.now }
-    ensures { result ≡ every space (take 8 (drop at s.now)) }
-{
-    let mut all = true;
-    let mut i = 0;
-    while i < INDENT {
-        if s[at + i] != 32 {
-            all = false;
-        }
-        i += 1;
-    }
-    all
+    at.max(s.len())
 }
 
 // Behind the blocks of spaces from `at` on.
@@ -189,140 +176,106 @@ fn skip_spaces(s: &[u8], at: usize) -> usize
     requires { at ≤ length s.now }
     ensures { LayoutOver s.now at result }
 {
-    let n = s.len();
-    let mut i = at;
-    while INDENT <= n - i {
-        if !space_block(s, i) {
-            return i;
-        }
-        i += INDENT;
-    }
-    i
+    skip_blocks::<INDENT, _>(s, at, |b| b == b' ')
 }
 
-// Where the layout that starts at `at` ends.
-fn skip_layout(s: &[u8], classes: &[u8], at: usize) -> usize
-    requires { ClassTable classes.now }
+// Where the layout that starts at `at` ends. One comment or one run of blanks is passed at a time, which no range counts.
+fn skip_layout(s: &[u8], classes: &Classes, at: usize) -> usize
     ensures { result ≡ layout_end false at (drop at s.now) }
 {
     let mut pos = at;
     while pos < s.len() {
-        let class = class_at(s, classes, pos);
-        if 1 < class {
-            return pos;
-        }
-        if class == 0 {
-            let behind = skip_spaces(s, pos + 1);
-            pos = skip_blank(s, classes, behind);
-        } else {
-            pos = comment_end(s, pos + 1);
+        match classes.of(s[pos]) {
+            LAYOUT => {
+                let behind = skip_spaces(s, pos + 1);
+                pos = skip_blank(s, classes, behind);
+            }
+            COMMENT => pos = comment_end(s, pos + 1),
+            _ => return pos,
         }
     }
     pos
 }
 
 // Behind the bytes from `at` on whose class numbers are `low` or more.
-fn run_end(s: &[u8], classes: &[u8], at: usize, low: u8) -> usize
-    requires { ClassTable classes.now }
+fn run_end(s: &[u8], classes: &Classes, at: usize, low: u8) -> usize
     ensures { Run s.now at low result }
 {
-    let mut pos = at;
-    while pos < s.len() {
-        if class_at(s, classes, pos) < low {
+    for pos in at..s.len() {
+        if classes.of(s[pos]) < low {
             return pos;
         }
-        pos += 1;
     }
-    pos
+    at.max(s.len())
 }
 
 // Whether an atom that goes up to `at` ends there: before layout, `;`, a parenthesis or the end.
-fn stops(s: &[u8], classes: &[u8], at: usize) -> bool
-    requires { ClassTable classes.now }
+fn stops(s: &[u8], classes: &Classes, at: usize) -> bool
     ensures { result ≡ atom_stops s.now at }
 {
-    if at < s.len() {
-        return class_at(s, classes, at) < 4;
+    match s.get(at) {
+        Some(&b) => classes.of(b) < REFUSED,
+        None => true,
     }
-    true
 }
 
 // The end of the atom that starts at `start`, if it is one and an identifier; else `start`. No byte of it is looked at again.
-pub fn name_end(s: &[u8], classes: &[u8], start: usize) -> usize
-    requires { ClassTable classes.now }
+pub fn name_end(s: &[u8], classes: &Classes, start: usize) -> usize
     ensures { start < result → NameAt s.now start result }
 {
-    if start < s.len() {
-        if class_at(s, classes, start) == BEGINS {
+    match s.get(start) {
+        Some(&b) if classes.of(b) == BEGINS => {
             let end = run_end(s, classes, start + 1, NAME);
-            if stops(s, classes, end) {
-                return end;
-            }
+            if stops(s, classes, end) { end } else { start }
         }
+        _ => start,
     }
-    start
 }
 
 // The atom that starts at `start`, which is an atom's byte.
-fn lex_atom(s: &[u8], classes: &[u8], start: usize) -> Lexed
-    requires class_table { ClassTable classes.now }
-    requires start_in_bounds { start < length s.now }
+fn lex_atom(s: &[u8], classes: &Classes, start: usize) -> Result<Token, Refusal>
+    requires { start < length s.now }
     ensures { result ≡ atom_from start (start + 1) (drop (start + 1) s.now) }
 {
     let end = run_end(s, classes, start + 1, ATOM);
     if stops(s, classes, end) {
-        return Lexed::Got(Token {
+        Ok(Token {
             kind: TokenKind::Atom,
-            start: start,
-            end: end,
-        });
+            start,
+            end,
+        })
+    } else {
+        Err(Refusal::at(Class::Malformed, end))
     }
-    Lexed::Refused(Refusal {
-        class: 1,
-        place: Place::At(end),
-    })
 }
 
 // The token that starts at `start`, where no layout is.
-fn token_at(s: &[u8], classes: &[u8], start: usize) -> Lexed
-    requires class_table { ClassTable classes.now }
-    requires start_in_bounds { start < length s.now }
+fn token_at(s: &[u8], classes: &Classes, start: usize) -> Result<Token, Refusal>
+    requires { start < length s.now }
     ensures { result ≡ token_here start (drop start s.now) }
 {
-    let class = class_at(s, classes, start);
-    if ATOM <= class {
-        return lex_atom(s, classes, start);
-    }
-    if class == 2 {
-        return Lexed::Got(Token {
-            kind: TokenKind::LParen,
-            start: start,
-            end: start + 1,
-        });
-    }
-    if class == 3 {
-        return Lexed::Got(Token {
-            kind: TokenKind::RParen,
-            start: start,
-            end: start + 1,
-        });
-    }
-    Lexed::Refused(Refusal {
-        class: 1,
-        place: Place::At(start),
+    let kind = match classes.of(s[start]) {
+        ATOM.. => return lex_atom(s, classes, start),
+        OPEN => TokenKind::LParen,
+        CLOSE => TokenKind::RParen,
+        _ => return Err(Refusal::at(Class::Malformed, start)),
+    };
+    Ok(Token {
+        kind,
+        start,
+        end: start + 1,
     })
 }
 
 // The first token at or behind `at`, by the table of byte classes.
-pub fn next_token_by(s: &[u8], classes: &[u8], at: usize) -> Lexed
-    requires { ClassTable classes.now }
+pub fn next_token_by(s: &[u8], classes: &Classes, at: usize) -> Result<Token, Refusal>
     ensures { result ≡ next_token s.now at }
 {
     let start = skip_layout(s, classes, at);
     if start >= s.len() {
-        return Lexed::Got(Token {
+        return Ok(Token {
             kind: TokenKind::Eof,
-            start: start,
+            start,
             end: start,
         });
     }
@@ -330,9 +283,9 @@ pub fn next_token_by(s: &[u8], classes: &[u8], at: usize) -> Lexed
 }
 
 // The same, where one token is asked for: the table is made for it.
-pub fn next_token(s: &[u8], at: usize) -> Lexed
+pub fn next_token(s: &[u8], at: usize) -> Result<Token, Refusal>
     ensures { result ≡ next_token s.now at }
 {
-    let classes = class_table();
+    let classes = Classes::new();
     next_token_by(s, &classes, at)
 }

@@ -1,23 +1,21 @@
--- The bytes of the mark by their offsets.
-use Prim.Native.Nat.{ℕ, ◌≤◌, ◌<◌}
-use mathlib.Core.Path.{◌≡◌, refl}
-use mathlib.Core.Bool.{false, ◌&&◌}
+-- The mark is a beginning of three bytes.
+use Prim.Native.Nat.{ℕ}
+use mathlib.Core.Path.{◌≡◌, refl, sym, ◌∙◌}
+use mathlib.Core.Bool.{and-true, and-false}
 use mathlib.Core.List.{List, [], ◌∷◌}
-use native.Mathlib.Omega.{arith}
+use native.Mathlib.Decide.{ℕ_discrete}
 use lib.Dec.{eqb}
-use lib.ListN.{length, get_or}
+use borrow.Author.Tests.{eq-eqb, ne_eqb}
+use Rattle.std.specs.List.{starts_with}
 use Rattle.utf8.specs.Utf8.{byte_order_mark}
 
-pub mark_short : (s : List ℕ) → length s < 3 → false ≡ byte_order_mark s
-unfolding byte_order_mark
-mark_short [] h = refl
-mark_short (a ∷ []) h = refl
-mark_short (a ∷ b ∷ []) h = refl
-mark_short (a ∷ b ∷ c ∷ l) h = absurd (omega arith)
+-- The mark's bytes stand on the left of each test.
+turned : (x y : ℕ) → eqb x y ≡ eqb y x
+turned x y = elim (ℕ_discrete x y) [ yes e ↦ eq-eqb x y e ∙ sym (eq-eqb y x (sym e)) | no n ↦ ne_eqb x y n ∙ sym (ne_eqb y x (λ e. n (sym e))) ]
 
-pub mark_is : (s : List ℕ) → 3 ≤ length s → byte_order_mark s ≡ (eqb (get_or s 0 0) 0xEF && (eqb (get_or s 1 0) 0xBB && eqb (get_or s 2 0) 0xBF))
+pub mark_is : (s : List ℕ) → starts_with eqb s (0xEF ∷ 0xBB ∷ 0xBF ∷ []) ≡ byte_order_mark s
 unfolding byte_order_mark
-mark_is [] h = absurd (omega arith)
-mark_is (a ∷ []) h = absurd (omega arith)
-mark_is (a ∷ b ∷ []) h = absurd (omega arith)
-mark_is (a ∷ b ∷ c ∷ l) h = refl
+mark_is [] = refl
+mark_is (a ∷ []) = and-false (eqb 0xEF a)
+mark_is (a ∷ b ∷ []) = rw (and-false (eqb 0xBB b)) (and-false (eqb 0xEF a))
+mark_is (a ∷ b ∷ c ∷ l) = rw (and-true (eqb 0xBF c), turned 0xEF a, turned 0xBB b, turned 0xBF c)

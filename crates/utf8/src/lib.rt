@@ -10,13 +10,11 @@ ghost use Rattle.utf8.specs.Ascii.{ascii, ascii_end, SameEnd};
 fn between(low: u8, high: u8, b: u8) -> bool
     ensures { result ≡ in_range (range low high) b }
 {
-    if b < low {
-        return false;
-    }
-    b <= high
+    low <= b && b <= high
 }
 
 // Whether a byte is the second of a sequence of three or four bytes, by the first.
+#[tactic(auto, unfolding(crate::specs::Sequences::second))]
 fn is_second(first: u8, b: u8) -> bool
     ensures { result ≡ in_range (second first) b }
 {
@@ -34,30 +32,26 @@ fn three(s: &[u8], at: usize) -> usize
     requires { First s.now at 3 0xE0 0xEF }
     ensures { result ≡ sequence (drop at s.now) }
 {
-    if !is_second(s[at], s[at + 1]) {
-        return 0;
+    if is_second(s[at], s[at + 1]) && between(0x80, 0xBF, s[at + 2]) {
+        3
+    } else {
+        0
     }
-    if !between(0x80, 0xBF, s[at + 2]) {
-        return 0;
-    }
-    3
 }
 
-// The same of four bytes.
+// The same of four bytes. One function of both would ask for their number once more, and so would its proof.
 fn four(s: &[u8], at: usize) -> usize
     requires { First s.now at 4 0xF0 0xF4 }
     ensures { result ≡ sequence (drop at s.now) }
 {
-    if !is_second(s[at], s[at + 1]) {
-        return 0;
+    if is_second(s[at], s[at + 1])
+        && between(0x80, 0xBF, s[at + 2])
+        && between(0x80, 0xBF, s[at + 3])
+    {
+        4
+    } else {
+        0
     }
-    if !between(0x80, 0xBF, s[at + 2]) {
-        return 0;
-    }
-    if !between(0x80, 0xBF, s[at + 3]) {
-        return 0;
-    }
-    4
 }
 
 // Behind the sequences of two bytes from `at` on.
@@ -65,18 +59,14 @@ fn skip_pairs(s: &[u8], at: usize) -> usize
     requires { at ≤ length s.now }
     ensures { Pairs s.now at result }
 {
-    let n = s.len();
-    let mut i = at;
-    while 2 <= n - i {
-        if !between(0xC2, 0xDF, s[i]) {
-            return i;
+    let mut behind = at;
+    for pair in s[at..].chunks_exact(2) {
+        if !between(0xC2, 0xDF, pair[0]) || !between(0x80, 0xBF, pair[1]) {
+            return behind;
         }
-        if !between(0x80, 0xBF, s[i + 1]) {
-            return i;
-        }
-        i += 2;
+        behind += 2;
     }
-    i
+    behind
 }
 
 // The length of the sequence at `at`, whose first byte is behind those of two bytes; 0 where it is broken or cut off.
@@ -84,41 +74,22 @@ fn long_sequence(s: &[u8], at: usize) -> usize
     requires { First s.now at 1 0xE0 0xFF }
     ensures { result ≡ sequence (drop at s.now) }
 {
-    let b = s[at];
     let left = s.len() - at;
-    if b < 0xF0 {
-        if left < 3 {
-            return 0;
-        }
-        return three(s, at);
+    match s[at] {
+        ..0xF0 if 3 <= left => three(s, at),
+        0xF0..=0xF4 if 4 <= left => four(s, at),
+        _ => 0,
     }
-    if 0xF4 < b {
-        return 0;
-    }
-    if left < 4 {
-        return 0;
-    }
-    four(s, at)
 }
 
 // How many bytes are looked at together.
 const BLOCK: usize = 64;
 
-// Whether a block is ASCII: its greatest byte is. This loop becomes a few instructions on the whole block.
-fn ascii_block(s: &[u8], at: usize) -> bool
-    requires { at + 64 ≤ length s.now }
-    ensures { result ≡ ascii (take 64 (drop at s.now)) }
+// Whether a block is ASCII: its greatest byte is. For a block this loop becomes a few instructions on all of it.
+fn is_ascii(block: &[u8]) -> bool
+    ensures { result ≡ ascii block.now }
 {
-    let mut greatest = 0;
-    let mut i = 0;
-    while i < BLOCK {
-        let b = s[at + i];
-        if greatest < b {
-            greatest = b;
-        }
-        i += 1;
-    }
-    greatest < 0x80
+    block.iter().fold(0u8, |greatest, &b| greatest.max(b)) < 0x80
 }
 
 // Behind the blocks of ASCII from `at` on.
@@ -126,15 +97,14 @@ fn skip_blocks(s: &[u8], at: usize) -> usize
     requires { at ≤ length s.now }
     ensures { SameEnd s.now at result }
 {
-    let n = s.len();
-    let mut i = at;
-    while BLOCK <= n - i {
-        if !ascii_block(s, i) {
-            return i;
+    let mut behind = at;
+    for block in s[at..].chunks_exact(BLOCK) {
+        if !is_ascii(block) {
+            return behind;
         }
-        i += BLOCK;
+        behind += BLOCK;
     }
-    i
+    behind
 }
 
 // The first byte from `at` on that is not ASCII, or the end. Often it stands at `at`, behind a space between two words.
@@ -142,19 +112,16 @@ fn skip_ascii(s: &[u8], at: usize) -> usize
     requires { at ≤ length s.now }
     ensures { result ≡ ascii_end at (drop at s.now) }
 {
-    if at < s.len() {
-        if 0x80 <= s[at] {
-            return at;
-        }
+    let n = s.len();
+    if at < n && 0x80 <= s[at] {
+        return at;
     }
-    let mut i = skip_blocks(s, at);
-    while i < s.len() {
+    for i in skip_blocks(s, at)..n {
         if 0x80 <= s[i] {
             return i;
         }
-        i += 1;
     }
-    i
+    n
 }
 
 // The length of the longest beginning that is UTF-8: `valid_up_to` of Rust's `Utf8Error`, or the whole length.
@@ -188,8 +155,5 @@ pub fn valid_up_to(s: &[u8]) -> usize
 pub fn starts_with_mark(s: &[u8]) -> bool
     ensures { result ≡ byte_order_mark s.now }
 {
-    if s.len() < 3 {
-        return false;
-    }
-    s[0] == 0xEF && (s[1] == 0xBB && s[2] == 0xBF)
+    s.starts_with(b"\xEF\xBB\xBF")
 }

@@ -1,8 +1,8 @@
 -- The slots of the short reserved words: what the table of entries says, shown by computed tests of all of it.
-use Prim.Native.Nat.{ℕ, zero, suc, ◌+◌, ◌*◌, ◌/◌, ◌%◌, ◌≤◌, ◌<◌}
+use Prim.Native.Nat.{ℕ, ◌+◌, ◌*◌, ◌/◌, ◌%◌, ◌≤◌, ◌<◌}
 use mathlib.Core.Path.{◌≡◌, refl, sym, ◌∙◌, ap}
 use mathlib.Core.Bool.{true, not, ◌&&◌, ◌||◌, and-eq-true_iff}
-use mathlib.Core.List.{List, [], ◌∷◌}
+use mathlib.Core.List.{List}
 use native.Mathlib.Omega.{arith}
 use native.Mathlib.Decide.{ℕ_discrete}
 use lib.Dec.{eqb, ltb}
@@ -14,17 +14,7 @@ use Rattle.words.specs.Words.{reserved_words, word_index}
 use Rattle.words.specs.Slots.{word_slot, slot_places, place_unit, slot_entry}
 use Rattle.words.proofs.Every.{Every, at}
 use Rattle.words.proofs.Reserved.{word, word_of_index}
-use Rattle.words.proofs.Lookup.{Each, index_of_number}
-
--- The numbers below n, the last first.
-abbrev below : ℕ → List ℕ
-below zero = []
-below (suc n) = n ∷ below n
-
--- A number that is none of those below n.
-behind : (n k : ℕ) → Each (λ i. k ≡ i → ⊥) (below n) → n ≤ k
-behind zero k e = omega arith
-behind (suc n) k e = let h = behind n k e.0 in let q : k ≡ n → ⊥ = e.1 in elim (ℕ_discrete k n) [ yes z ↦ absurd (q z) | no m ↦ omega (arith, m) ]
+use Rattle.words.proofs.Lookup.{index_of_number}
 
 -- The place of the word in a slot, and what that makes of the entry.
 abbrev placed : ℕ → ℕ
@@ -34,9 +24,9 @@ abbrev entry_of : ℕ → ℕ
 entry_of p = digits 1 (word p) + p * place_unit
 
 -- Behind the slots that have an arm there is no word.
-pub entry_behind : (k : ℕ) → Each (λ i. k ≡ i → ⊥) (below 31) → 1 ≡ slot_entry k
+pub entry_behind : (k : ℕ) → 31 ≤ k → 1 ≡ slot_entry k
 unfolding slot_entry digits
-entry_behind k e = ap entry_of (sym (get_or-eq_default slot_places 0 (behind 31 k e)))
+entry_behind k h = ap entry_of (sym (get_or-eq_default slot_places 0 h))
 
 -- An entry can be taken apart.
 apart : Every (λ (k : ℕ). ltb (placed k) 28 && (eqb (slot_entry k / place_unit) (placed k) && eqb (slot_entry k % place_unit) (digits 1 (word (placed k))))) 32

@@ -7,7 +7,7 @@ ghost use Rattle.token.specs.Token.{digit};
 ghost use Rattle.words.specs.Words.{same_bytes, word_index, reserved, name_start, name_byte, identifier, numeral, name_test};
 ghost use Rattle.words.specs.Slots.{word_slot, slot_entry};
 
-#[derive(Clone, Copy)]
+#[derive(Clone, Copy, Debug, PartialEq, Eq)]
 pub enum NameTest {
     Name,
     Reserved,
@@ -19,10 +19,7 @@ pub fn same_bytes(a: &[u8], b: &[u8]) -> bool
     ensures { result ≡ same_bytes a.now b.now }
 {
     let n = a.len();
-    if n != b.len() {
-        return false;
-    }
-    differences::first_difference(a, b) == n
+    n == b.len() && differences::first_difference(a, b) == n
 }
 
 // The slot in which a word of fewer than eight bytes is looked for, by its number: no two of the reserved ones share one.
@@ -37,6 +34,7 @@ const PLACE: u64 = 0x0400_0000_0000_0000;
 
 // The entry of a slot: its reserved word's number and place; where there is none, those of the empty atom. With an arm for each slot this
 // becomes a table that is read in place; an array would be copied at each call, and fewer arms become jumps.
+#[tactic(auto, unfolding(crate::specs::Slots::slot_entry, crate::specs::Words::reserved_words, differences::specs::inner::Digits::digits))]
 fn slot_entry(slot: u64) -> u64
     ensures { result ≡ slot_entry slot }
 {
@@ -82,11 +80,12 @@ fn short_index(w: &[u8]) -> u8
     ensures { result ≡ word_index w.now }
 {
     let number = differences::number(1, w);
-    let slot = word_slot(number);
-    if slot_entry(slot) % PLACE == number {
-        return (slot_entry(slot) / PLACE) as u8;
+    let entry = slot_entry(word_slot(number));
+    if entry % PLACE == number {
+        (entry / PLACE) as u8
+    } else {
+        0
     }
-    0
 }
 
 // Which of two words an atom is, by their places; 0 where it is neither.
@@ -94,12 +93,12 @@ fn one_of(w: &[u8], first: &[u8], i: u8, second: &[u8], j: u8) -> u8
     ensures { result ≡ cond (same_bytes w.now first.now) i (cond (same_bytes w.now second.now) j 0) }
 {
     if same_bytes(w, first) {
-        return i;
+        i
+    } else if same_bytes(w, second) {
+        j
+    } else {
+        0
     }
-    if same_bytes(w, second) {
-        return j;
-    }
-    0
 }
 
 // The place of an atom that is as long as a longer reserved word.
@@ -118,13 +117,11 @@ fn long_index(w: &[u8]) -> u8
 pub fn word_index(w: &[u8]) -> u8
     ensures { result ≡ word_index w.now }
 {
-    if w.len() < 8 {
-        return short_index(w);
+    match w.len() {
+        0..8 => short_index(w),
+        8..=11 => long_index(w),
+        _ => 0,
     }
-    if 11 < w.len() {
-        return 0;
-    }
-    long_index(w)
 }
 
 pub fn is_reserved(w: &[u8]) -> bool
@@ -136,68 +133,38 @@ pub fn is_reserved(w: &[u8]) -> bool
 pub fn is_name_start(b: u8) -> bool
     ensures { result ≡ name_start b }
 {
-    match b {
-        65..=90 => true,
-        95 => true,
-        97..=122 => true,
-        _ => false,
-    }
+    b.is_ascii_alphabetic() || b == b'_'
 }
 
 pub fn is_digit(b: u8) -> bool
     ensures { result ≡ digit b }
 {
-    match b {
-        48..=57 => true,
-        _ => false,
-    }
+    b.is_ascii_digit()
 }
 
 pub fn is_name_byte(b: u8) -> bool
     ensures { result ≡ name_byte b }
 {
-    if is_name_start(b) {
-        return true;
-    }
-    is_digit(b)
+    is_name_start(b) || is_digit(b)
 }
 
 pub fn is_identifier(w: &[u8]) -> bool
     ensures { result ≡ identifier w.now }
 {
-    if w.len() == 0 {
-        return false;
+    match w.split_first() {
+        Some((&first, rest)) => is_name_start(first) && rest.iter().all(|&b| is_name_byte(b)),
+        None => false,
     }
-    if !is_name_start(w[0]) {
-        return false;
-    }
-    let mut i = 1;
-    while i < w.len() {
-        if !is_name_byte(w[i]) {
-            return false;
-        }
-        i += 1;
-    }
-    true
 }
 
 pub fn is_numeral(w: &[u8]) -> bool
     ensures { result ≡ numeral w.now }
 {
-    if w.len() == 0 {
-        return false;
+    match w.split_first() {
+        Some((b'0', rest)) => rest.is_empty(),
+        Some(_) => w.iter().all(|&b| is_digit(b)),
+        None => false,
     }
-    if w[0] == 48 {
-        return w.len() == 1;
-    }
-    let mut i = 0;
-    while i < w.len() {
-        if !is_digit(w[i]) {
-            return false;
-        }
-        i += 1;
-    }
-    true
 }
 
 // The reserved test comes before the identifier test.
@@ -205,10 +172,10 @@ pub fn name_test(w: &[u8]) -> NameTest
     ensures { result ≡ name_test w.now }
 {
     if is_reserved(w) {
-        return NameTest::Reserved;
+        NameTest::Reserved
+    } else if is_identifier(w) {
+        NameTest::Name
+    } else {
+        NameTest::NotIdentifier
     }
-    if is_identifier(w) {
-        return NameTest::Name;
-    }
-    NameTest::NotIdentifier
 }

@@ -7,7 +7,4 @@ use Rattle.binder.specs.inner.Walk.{first_from, argument_with}
 use Rattle.binder.proofs.argument_with.Given as goal
 
 abbrev pub invariant-loop-i : goal.invariant-loop-i
-invariant-loop-i l = (argument_with l.surface l.k l.id ≡ first_from (λ j. leb l.k (get_or l.surface (l.first + j) 0)) (l.n - l.i) l.i) × (l.i ≤ l.n) × (l.n ≤ 6) × (l.first ≤ l.id * 8 + 3)
-
-abbrev pub decreases-loop-i : goal.decreases-loop-i
-decreases-loop-i l = l.n - l.i
+invariant-loop-i l = (argument_with l.surface l.k l.id ≡ first_from (λ j. leb l.k (get_or l.surface (l.first + j) 0)) (l.n - l.i) l.i) × (l.n ≤ 6) × (l.first ≤ l.id * 8 + 3)

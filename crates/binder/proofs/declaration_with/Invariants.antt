@@ -8,6 +8,3 @@ use Rattle.binder.proofs.declaration_with.Given as goal
 
 abbrev pub invariant-loop-j : goal.invariant-loop-j
 invariant-loop-j l = declaration_with l.declarations l.count l.k ≡ first_from (λ i. ltb l.k (row_behind l.declarations i)) (l.count - l.j) l.j
-
-abbrev pub decreases-loop-j : goal.decreases-loop-j
-decreases-loop-j l = l.count - l.j

@@ -1,12 +1,14 @@
 -- The way from the top of a type or body down to a row, and the binders that come into scope on it. A row's arguments have the rows before it, each
 -- argument those from behind the one before it up to its own. Only contracts of private functions cite this.
-use Rattle.std.specs.Prelude.{ℕ, zero, suc, ◌+◌, ◌*◌, ◌<◌, ◌≤◌, ◌≡◌, List, [], ◌∷◌, Bool, true, false, cond, eqb, leb, ltb, get_or, length}
+use Rattle.token.specs.declared.Class.{Class}
+use Rattle.std.specs.Prelude.{ℕ, zero, suc, ◌+◌, ◌*◌, ◌<◌, ◌≤◌, ◌≡◌, List, [], ◌∷◌, Bool, true, false, cond, eqb, leb, ltb, get_or, length, Ok, Err}
 use Rattle.terms.specs.Forms.{arity_of, holds_span}
 use Rattle.terms.specs.Label.{part}
 use Rattle.terms.specs.Resolution.{find, covers}
 use Rattle.terms.specs.Lookup.{Local, local_of, lookup, Referent, local, global, unknown, refers}
 use Rattle.surface.specs.Reader.{nowhere}
-use Rattle.binding.specs.declared.Binding.{Binding}
+use Rattle.binding.specs.declared.Binder.{Binder}
+use Rattle.binding.specs.Answer.{Binding}
 use Rattle.rows.specs.DeclarationRows.{row_behind}
 use Rattle.scope.specs.Scope.{in_scope, declared_names}
 use Rattle.elaborate.specs.RowTerm.{row_word, label_at, bound_at}
@@ -68,6 +70,6 @@ pub record WentDown (t : List ℕ) (k : ℕ) (way : Way) (work : List ℕ) (way�
 
 -- The answer, by what the reference refers to: in a source that is loaded it is known.
 abbrev pub binding_of : Referent → Binding
-binding_of (local f) = Binding.Local f.count f.row
-binding_of (global j) = Binding.Global j
-binding_of unknown = Binding.Refused (nowhere 12)
+binding_of (local f) = Ok (Binder.Local f.count f.row)
+binding_of (global j) = Ok (Binder.Global j)
+binding_of unknown = Err (nowhere Class.NoDeclaration)

@@ -1,7 +1,6 @@
 -- The layout of a print: what stands between its tokens.
-use Rattle.std.specs.Prelude.{List, [], ◌∷◌, Bool, true, false, ◌&&◌, ◌||◌, ℕ, zero, suc, ◌-◌, length}
+use Rattle.std.specs.Prelude.{List, [], ◌∷◌, Bool, true, false, ◌&&◌, ◌||◌, ℕ, zero, suc, ◌-◌, length, Ok, Err}
 use Rattle.token.specs.declared.TokenKind.{TokenKind}
-use Rattle.token.specs.declared.Lexed.TheVariants.{Got, Refused}
 use Rattle.core_token.specs.CoreToken.{next_core_token}
 use Rattle.words.specs.Words.{same_bytes}
 use Rattle.terms.specs.Label.{part}
@@ -23,8 +22,8 @@ module _ (t : List ℕ) where
   laid_out zero tight at = false
   laid_out (suc n) tight at =
       elim (next_core_token t at) [
-        | Refused r ↦ false
-        | Got u ↦ same_bytes (part t at (u.start - at)) (gap tight u.kind) && (is_end u.kind || laid_out n (is_open u.kind) u.end)
+        | Err r ↦ false
+        | Ok u ↦ same_bytes (part t at (u.start - at)) (gap tight u.kind) && (is_end u.kind || laid_out n (is_open u.kind) u.end)
       ]
 
 -- Whether a text has the layout of a print. Each token but the last has a byte.

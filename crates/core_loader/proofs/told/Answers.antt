@@ -1,7 +1,7 @@
 -- `core_loader::told` meets its contract.
 use mathlib.Core.Path.{ap}
-use Prim.Native.Nat.{ℕ}
+use Rattle.token.specs.declared.Class.{Class}
 use Rattle.core_loader.proofs.told.Goals as goal
 
 pub returns : goal.returns
-returns c = ap (λ (k : ℕ). record { class = k; place = c.args.refusal.place }) c.told_class.ensures
+returns c = ap (λ (k : Class). record { class = k; place = c.args.refusal.place }) c.told_class.ensures

@@ -9,6 +9,3 @@ use Rattle.core_names.proofs.any_repeated.Given as goal
 abbrev pub invariant-loop-d : goal.invariant-loop-d
 invariant-loop-d l =
     (length l.index ≡ length l.initial.index) × Indexed l.s l.declarations l.d l.index × (repeats l.s l.declarations 0 l.count ≡ repeats l.s l.declarations l.d (l.count - l.d))
-
-abbrev pub decreases-loop-d : goal.decreases-loop-d
-decreases-loop-d l = l.count - l.d

@@ -1,12 +1,10 @@
 -- `core_reader::format_line` meets its contract.
-use Rattle.core_text.specs.TextReading.{text_edition}
-use Rattle.core_reader.proofs.Lines.{format_refused, format_got}
+use Rattle.std.proofs.lemmas.Result.{err_from_is_err_and}
+use Rattle.core_reader.proofs.Lines.{tag_core, format_refused, format_got}
 use Rattle.core_reader.proofs.format_line.Goals as goal
 
-pub returns-in-Refused : goal.returns-in-Refused
-unfolding text_edition
-returns-in-Refused c = format_refused _ _ _ c.expect_tag-l.ensures _ c.in-Refused.is
+pub returns-in_err-w : goal.returns-in_err-w
+returns-in_err-w c = let p = err_from_is_err_and c.from_residual.result c.from_residual.ensures.1 in rw (p.1, p.2) (format_refused _ _ _ (tag_core _ _ _ _ _ c.requires c.expect_tag.ensures) _ c.in_err-w.was)
 
-pub returns-in-Got : goal.returns-in-Got
-unfolding text_edition
-returns-in-Got c = format_got _ _ _ c.expect_tag-l.ensures _ c.in-Got.is c.read_version.result c.read_version.ensures
+pub returns : goal.returns
+returns c = format_got _ _ _ (tag_core _ _ _ _ _ c.requires c.expect_tag.ensures) _ c.in_ok-w.was c.read_version.result c.read_version.ensures

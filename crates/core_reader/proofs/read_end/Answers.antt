@@ -1,16 +1,13 @@
 -- `core_reader::read_end` meets its contract.
-use Rattle.core_text.specs.TextReading.{text_edition}
-use Rattle.core_reader.proofs.Lines.{end_unclosed, no_end, ended}
+use Rattle.std.proofs.lemmas.Result.{err_from_is_err_and}
+use Rattle.core_reader.proofs.Lines.{closing_core, end_core, end_unclosed, no_end, ended}
 use Rattle.core_reader.proofs.read_end.Goals as goal
 
-pub returns-in-Refused : goal.returns-in-Refused
-unfolding text_edition
-returns-in-Refused c = end_unclosed _ _ _ c.expect_rparen-l.ensures _ c.in-Refused.is
+pub returns-in_err-close : goal.returns-in_err-close
+returns-in_err-close c = let p = err_from_is_err_and c.from_residual.result c.from_residual.ensures.1 in rw (p.1, p.2) (end_unclosed _ _ _ (closing_core _ _ _ _ c.requires c.expect_rparen.ensures) _ c.in_err-close.was)
 
-pub returns-in-Refused-e : goal.returns-in-Refused-e
-unfolding text_edition
-returns-in-Refused-e c = no_end _ _ _ c.expect_rparen-l.ensures _ c.in-Got.is _ c.expect_end-e.ensures _ c.in-Refused-e.is
+pub returns-in_err-end : goal.returns-in_err-end
+returns-in_err-end c = let p = err_from_is_err_and c.from_residual-in_err-end.result c.from_residual-in_err-end.ensures.1 in rw (p.1, p.2) (no_end _ _ _ (closing_core _ _ _ _ c.requires c.expect_rparen.ensures) _ c.in_ok-close.was _ (end_core _ _ _ _ c.requires c.expect_end.ensures) _ c.in_err-end.was)
 
-pub returns-in-Got-e : goal.returns-in-Got-e
-unfolding text_edition
-returns-in-Got-e c = ended _ _ _ c.expect_rparen-l.ensures _ c.in-Got.is _ c.expect_end-e.ensures _ c.in-Got-e.is
+pub returns : goal.returns
+returns c = ended _ _ _ (closing_core _ _ _ _ c.requires c.expect_rparen.ensures) _ c.in_ok-close.was _ (end_core _ _ _ _ c.requires c.expect_end.ensures) _ c.in_ok-end.was

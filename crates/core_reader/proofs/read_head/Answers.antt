@@ -1,36 +1,26 @@
 -- `core_reader::read_head` meets its contract.
-use mathlib.Core.Path.{sym, ◌∙◌}
-use Rattle.core_text.specs.TextReading.{text_edition}
-use Rattle.core_reader.proofs.Lines.{head_refused, no_format, no_theory, supported, unsupported}
+use Rattle.std.proofs.lemmas.Result.{err_from_is_err_and}
+use Rattle.core_reader.proofs.Lines.{tag_core, head_refused, no_format, no_theory, supported, unsupported}
+use Rattle.core_reader.proofs.read_head.Goals.{else-format-via-then-format+else-theory, else-format-via-else-format}
 use Rattle.core_reader.proofs.read_head.Goals as goal
 
-pub returns-then-both : goal.returns-then-both
-unfolding text_edition
-returns-then-both c =
-    let v = c.theory_line-t in
-    let y = c.format_line-f in
-    supported _ _ _ c.expect_tag-l.ensures _ c.in-Got.is y.result y.ensures _ _ c.in-Got-f.is v.result v.ensures _ _ c.in-Got-t.is (sym c.both.ensures ∙ c.if-both.true)
+pub returns-in_err-w : goal.returns-in_err-w
+returns-in_err-w c = let p = err_from_is_err_and c.from_residual.result c.from_residual.ensures.1 in rw (p.1, p.2) (head_refused _ _ _ (tag_core _ _ _ _ _ c.requires c.expect_tag.ensures) _ c.in_err-w.was)
 
-pub returns-in-Refused : goal.returns-in-Refused
-unfolding text_edition
-returns-in-Refused c = head_refused _ _ _ c.expect_tag-l.ensures _ c.in-Refused.is
+pub returns-in_err-format : goal.returns-in_err-format
+returns-in_err-format c = let p = err_from_is_err_and c.from_residual-in_err-format.result c.from_residual-in_err-format.ensures.1 in rw (p.1, p.2) (no_format _ _ _ (tag_core _ _ _ _ _ c.requires c.expect_tag.ensures) _ c.in_ok-w.was c.format_line.result c.format_line.ensures _ c.in_err-format.was)
 
-pub returns-in-Refused-f : goal.returns-in-Refused-f
-unfolding text_edition
-returns-in-Refused-f c =
-    let y = c.format_line-f in
-    no_format _ _ _ c.expect_tag-l.ensures _ c.in-Got.is y.result y.ensures _ c.in-Refused-f.is
+pub returns-in_err-theory : goal.returns-in_err-theory
+returns-in_err-theory c = let p = err_from_is_err_and c.from_residual-in_err-theory.result c.from_residual-in_err-theory.ensures.1 in rw (p.1, p.2) (no_theory _ _ _ (tag_core _ _ _ _ _ c.requires c.expect_tag.ensures) _ c.in_ok-w.was c.format_line.result c.format_line.ensures _ _ c.in_ok-format.was c.theory_line.result c.theory_line.ensures _ c.in_err-theory.was)
 
-pub returns-in-Refused-t : goal.returns-in-Refused-t
-unfolding text_edition
-returns-in-Refused-t c =
-    let v = c.theory_line-t in
-    let y = c.format_line-f in
-    no_theory _ _ _ c.expect_tag-l.ensures _ c.in-Got.is y.result y.ensures _ _ c.in-Got-f.is v.result v.ensures _ c.in-Refused-t.is
+pub returns-then-theory : goal.returns-then-theory
+returns-then-theory c =
+    supported _ _ _ (tag_core _ _ _ _ _ c.requires c.expect_tag.ensures) _ c.in_ok-w.was c.format_line.result c.format_line.ensures _ _ c.in_ok-format.was c.theory_line.result c.theory_line.ensures _ _ c.in_ok-theory.was (rw (c.if-format.true, c.if-theory.true))
 
-pub returns-else-both : goal.returns-else-both
-unfolding text_edition
-returns-else-both c =
-    let v = c.theory_line-t in
-    let y = c.format_line-f in
-    unsupported _ _ _ c.expect_tag-l.ensures _ c.in-Got.is y.result y.ensures _ _ c.in-Got-f.is v.result v.ensures _ _ c.in-Got-t.is (sym c.both.ensures ∙ c.if-both.false) _ c.refused_nowhere.ensures
+pub returns : goal.returns
+returns c =
+    unsupported _ _ _ (tag_core _ _ _ _ _ c.requires c.expect_tag.ensures) _ c.in_ok-w.was c.format_line.result c.format_line.ensures _ _ c.in_ok-format.was c.theory_line.result c.theory_line.ensures _ _ c.in_ok-theory.was
+    (elim c.else-format.branch [
+      | else-format-via-then-format+else-theory w ↦ rw (w.if-format.true, w.if-theory.false)
+      | else-format-via-else-format w ↦ rw w.if-format.false
+    ]) _ c.nowhere.ensures

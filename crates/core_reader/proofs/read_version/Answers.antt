@@ -1,31 +1,23 @@
 -- `core_reader::read_version` meets its contract.
-use Rattle.expects.specs.declared.Format.{Format}
+use Rattle.std.proofs.lemmas.Result.{err_from_is_err_and}
 use Rattle.expects.proofs.Ahead.{natural_inside, inside_got}
-use Rattle.core_text.specs.TextReading.{text_edition}
-use Rattle.core_reader.proofs.Lines.{major_refused, minor_refused, unclosed, version_got}
+use Rattle.core_reader.proofs.Lines.{natural_core, closing_core, major_refused, minor_refused, unclosed, version_got}
 use Rattle.core_reader.proofs.read_version.Goals as goal
 
-pub is_version-supported-requires : goal.is_version-supported-requires
-is_version-supported-requires c =
-    let a = c.parse_natural-m in
-    let b = c.parse_natural-n in record { token_inside = inside_got _ _ _ (natural_inside Format.Core01 _ _ a.result a.ensures) c.in-Got.is; token_inside_2 = inside_got _ _ _ (natural_inside Format.Core01 _ _ b.result b.ensures) c.in-Got-n.is }
+pub is_version-requires : goal.is_version-requires
+is_version-requires c = record {
+  major = inside_got _ _ _ (natural_inside c.args.input.format _ _ _ c.parse_natural.ensures) c.in_ok-major.was;
+  minor = inside_got _ _ _ (natural_inside c.args.input.format _ _ _ c.parse_natural-2.ensures) c.in_ok-minor.was;
+}
 
-pub returns-in-Refused : goal.returns-in-Refused
-unfolding text_edition
-returns-in-Refused c = major_refused _ _ _ c.parse_natural-m.ensures _ c.in-Refused.is
+pub returns-in_err-major : goal.returns-in_err-major
+returns-in_err-major c = let p = err_from_is_err_and c.from_residual.result c.from_residual.ensures.1 in rw (p.1, p.2) (major_refused _ _ _ (natural_core _ _ _ _ c.requires c.parse_natural.ensures) _ c.in_err-major.was)
 
-pub returns-in-Refused-n : goal.returns-in-Refused-n
-unfolding text_edition
-returns-in-Refused-n c = minor_refused _ _ _ c.parse_natural-m.ensures _ c.in-Got.is _ c.parse_natural-n.ensures _ c.in-Refused-n.is
+pub returns-in_err-minor : goal.returns-in_err-minor
+returns-in_err-minor c = let p = err_from_is_err_and c.from_residual-in_err-minor.result c.from_residual-in_err-minor.ensures.1 in rw (p.1, p.2) (minor_refused _ _ _ (natural_core _ _ _ _ c.requires c.parse_natural.ensures) _ c.in_ok-major.was _ (natural_core _ _ _ _ c.requires c.parse_natural-2.ensures) _ c.in_err-minor.was)
 
-pub returns-in-Refused-c : goal.returns-in-Refused-c
-unfolding text_edition
-returns-in-Refused-c c =
-    unclosed _ _ _ c.parse_natural-m.ensures _ c.in-Got.is _ c.parse_natural-n.ensures _ c.in-Got-n.is _
-    c.expect_rparen-c.ensures _ c.in-Refused-c.is
+pub returns-in_err-close : goal.returns-in_err-close
+returns-in_err-close c = let p = err_from_is_err_and c.from_residual-in_err-close.result c.from_residual-in_err-close.ensures.1 in rw (p.1, p.2) (unclosed _ _ _ (natural_core _ _ _ _ c.requires c.parse_natural.ensures) _ c.in_ok-major.was _ (natural_core _ _ _ _ c.requires c.parse_natural-2.ensures) _ c.in_ok-minor.was _ (closing_core _ _ _ _ c.requires c.expect_rparen.ensures) _ c.in_err-close.was)
 
-pub returns-in-Got-c : goal.returns-in-Got-c
-unfolding text_edition
-returns-in-Got-c c =
-    version_got _ _ _ c.parse_natural-m.ensures _ c.in-Got.is _ c.parse_natural-n.ensures _ c.in-Got-n.is _
-    c.expect_rparen-c.ensures _ c.in-Got-c.is _ c.is_version-supported.ensures
+pub returns : goal.returns
+returns c = version_got _ _ _ (natural_core _ _ _ _ c.requires c.parse_natural.ensures) _ c.in_ok-major.was _ (natural_core _ _ _ _ c.requires c.parse_natural-2.ensures) _ c.in_ok-minor.was _ (closing_core _ _ _ _ c.requires c.expect_rparen.ensures) _ c.in_ok-close.was _ c.is_version.ensures

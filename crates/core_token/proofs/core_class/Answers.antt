@@ -1,16 +1,10 @@
 -- `core_token::core_class` meets its contract.
 use mathlib.Core.Path.{sym, ap}
-use mathlib.Core.Logic.{⊎_elim, inl, inr}
+use mathlib.Core.Logic.{⊎_elim}
 use native.Mathlib.Omega.{arith}
 use Rattle.core_token.specs.CoreToken.{core_class}
-use Rattle.core_token.proofs.Classes.{nine_ten, low_refused, high_refused, range_atom, between}
+use Rattle.core_token.proofs.Classes.{nine_ten, low_refused, high_refused, range_atom}
 use Rattle.core_token.proofs.core_class.Goals as goal
-
-pub returns-then-b-le126 : goal.returns-then-b-le126
-returns-then-b-le126 c = range_atom _ (omega arith) (omega arith) (λ q. omega arith) (λ q. omega arith) (λ q. omega arith) (λ q. omega arith)
-
-pub returns-then-b-gt41 : goal.returns-then-b-gt41
-returns-then-b-gt41 c = high_refused _ (omega arith)
 
 pub returns-in-34 : goal.returns-in-34
 unfolding core_class
@@ -24,28 +18,23 @@ pub returns-in-41 : goal.returns-in-41
 unfolding core_class
 returns-in-41 c = ap core_class (sym c.in-41.is)
 
+pub returns-in-42-to-126 : goal.returns-in-42-to-126
+returns-in-42-to-126 c = range_atom _ (omega arith) (omega arith) (λ q. omega arith) (λ q. omega arith) (λ q. omega arith) (λ q. omega arith)
+
 pub returns-in_default : goal.returns-in_default
 returns-in_default c = low_refused _ (omega arith) (λ q. omega arith) (λ q. omega arith) (λ q. omega arith) (λ q. omega arith)
 
 pub returns-in_default-2 : goal.returns-in_default-2
-returns-in_default-2 c =
-    let r = c.in_default.in_default-own.rest in
-    low_refused _ (omega arith) (λ q. omega arith) (λ q. omega arith) (λ q. r.0.0.0.0.1 (inl q)) (λ q. r.0.0.0.0.1 (inr q))
+returns-in_default-2 c = low_refused _ (omega arith) (λ q. grind arith) (λ q. grind arith) (λ q. grind arith) (λ q. grind arith)
 
--- no byte comes here
 pub returns-in_default-3 : goal.returns-in_default-3
-returns-in_default-3 c =
-    let r = c.in_default.in_default-own.rest in
-    absurd (between _ c.in_default.if-b-lt40-own.false c.if-b-gt41.false (λ q. r.0.0.1 q) (λ q. r.0.1 q))
+returns-in_default-3 c = high_refused _ (omega arith)
 
 pub returns-in-33-to-39 : goal.returns-in-33-to-39
-unfolding core_class
-returns-in-33-to-39 c = ap core_class (sym c.in-33-to-39.in-33-to-39-own.keys5)
+returns-in-33-to-39 c = range_atom _ (omega arith) (omega arith) (λ q. omega arith) (λ q. omega arith) (λ q. omega arith) (λ q. omega arith)
 
 pub returns-in-33-to-39-2 : goal.returns-in-33-to-39-2
-returns-in-33-to-39-2 c =
-    let r = c.in-33-to-39.in_default-own.rest in
-    range_atom _ c.in-33-to-39.if-b-lt32-own.false (omega arith) (λ q. r.0.0.0.0.1 (inr q)) (λ q. r.0.0.0.1 q) (λ q. r.0.0.1 q) (λ q. r.0.1 q)
+returns-in-33-to-39-2 c = range_atom _ (omega arith) (omega arith) (λ q. grind arith) (λ q. grind arith) (λ q. grind arith) (λ q. grind arith)
 
 pub returns-in-9 : goal.returns-in-9
 unfolding core_class

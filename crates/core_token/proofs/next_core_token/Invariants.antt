@@ -1,12 +1,9 @@
 -- `core_token::next_core_token` meets its contract: the first token behind layout is the first token.
-use Prim.Native.Nat.{◌-◌}
+use Prim.Native.Nat.{◌≤◌, max}
 use mathlib.Core.Path.{◌≡◌}
 use lib.ListN.{length}
 use Rattle.core_token.specs.CoreToken.{next_core_token}
 use Rattle.core_token.proofs.next_core_token.Given as goal
 
 abbrev pub invariant-loop-pos : goal.invariant-loop-pos
-invariant-loop-pos l = next_core_token l.s l.at ≡ next_core_token l.s l.pos
-
-abbrev pub decreases-loop-pos : goal.decreases-loop-pos
-decreases-loop-pos l = length l.s - l.pos
+invariant-loop-pos l = (l.pos ≤ max l.at (length l.s)) × (next_core_token l.s l.at ≡ next_core_token l.s l.pos)

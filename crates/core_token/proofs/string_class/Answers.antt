@@ -5,9 +5,6 @@ use Rattle.core_token.specs.CoreToken.{string_class}
 use Rattle.core_token.proofs.Classes.{low_control, other_direct}
 use Rattle.core_token.proofs.string_class.Goals as goal
 
-pub returns-then-b-lt127 : goal.returns-then-b-lt127
-returns-then-b-lt127 c = other_direct _ (omega arith) (λ q. omega arith) (λ q. omega arith) (λ q. omega arith) (λ q. omega arith)
-
 pub returns-in-34 : goal.returns-in-34
 unfolding string_class
 returns-in-34 c = ap string_class (sym c.in-34.is)
@@ -16,18 +13,22 @@ pub returns-in-92 : goal.returns-in-92
 unfolding string_class
 returns-in-92 c = ap string_class (sym c.in-92.is)
 
-pub returns-in-127 : goal.returns-in-127
-unfolding string_class
-returns-in-127 c = ap string_class (sym c.in-127.is)
-
 pub returns-in-194 : goal.returns-in-194
 unfolding string_class
 returns-in-194 c = ap string_class (sym c.in-194.is)
 
-pub returns-in-0-to-31 : goal.returns-in-0-to-31
-returns-in-0-to-31 c = low_control _ c.in-0-to-31.if-b-lt32-own.true
+pub returns-in-93-to-126 : goal.returns-in-93-to-126
+returns-in-93-to-126 c = other_direct _ (omega arith) (λ q. omega arith) (λ q. omega arith) (λ q. omega arith) (λ q. omega arith)
 
 pub returns-in_default : goal.returns-in_default
-returns-in_default c =
-    let r = c.in_default.in_default-own.rest in
-    other_direct _ c.in_default.if-b-lt32-own.false (λ q. r.0.0.0.1 q) (λ q. r.0.0.1 q) (λ q. r.0.1 q) (λ q. r.1 q)
+returns-in_default c = other_direct _ (omega arith) (λ q. omega arith) (λ q. omega arith) (λ q. omega arith) (λ q. omega arith)
+
+pub returns-in_default-2 : goal.returns-in_default-2
+returns-in_default-2 c = other_direct _ (omega arith) (λ q. omega arith) (λ q. omega arith) (λ q. omega arith) (λ q. omega arith)
+
+pub returns-in-127 : goal.returns-in-127
+unfolding string_class
+returns-in-127 c = ap string_class (sym c.in-127.is)
+
+pub returns-in-0-to-31 : goal.returns-in-0-to-31
+returns-in-0-to-31 c = low_control _ (omega arith)

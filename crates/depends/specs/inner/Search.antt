@@ -2,7 +2,7 @@
 use Rattle.std.specs.Prelude.{Bool, true, false, ◌&&◌, ◌||◌, cond, List, ℕ, zero, suc, ◌+◌, ◌-◌, ◌*◌, eqb, ltb, get_or, set}
 use Rattle.std.proofs.Math.Option.{Option, none, some}
 use Rattle.rows.specs.DeclarationRows.{row_behind, first_row}
-use Rattle.dependence.specs.declared.Dependence.{Dependence}
+use Rattle.dependence.specs.Answer.{Dependence}
 use Rattle.dependence.specs.Asks.{shown}
 
 -- Whether place k is marked: a mark is 1, and there is none behind the table.

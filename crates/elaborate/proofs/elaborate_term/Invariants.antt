@@ -8,7 +8,7 @@ use Rattle.elaborate.proofs.elaborate_term.Given as goal
 
 abbrev pub invariant-loop-st : goal.invariant-loop-st
 invariant-loop-st l =
-    Elaborating l.s l.surface l.declarations l.index l.rows l.d l.root l.initial.core l.core l.work l.st × (length l.core ≡ length l.initial.core) × (length l.work ≡ length l.initial.work)
+    Elaborating l.m.source.now l.m.surface.now l.m.declarations.now l.index l.m.rows l.d l.root l.initial.core l.core l.work l.st × (length l.core ≡ length l.initial.core) × (length l.work ≡ length l.initial.work)
 
 abbrev pub decreases-loop-st : goal.decreases-loop-st
 decreases-loop-st l = weight (works_in l.work l.st.works)

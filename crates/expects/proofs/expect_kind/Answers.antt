@@ -1,13 +1,14 @@
--- `expects::expect_kind` meets its contract.
-use mathlib.Core.Path.{sym, ◌∙◌}
-use Rattle.expects.proofs.Tokens.{kind_got, kind_not, kind_refused}
+-- `expect_kind` meets its contract.
+use mathlib.Core.Path.{refl, sym, ap}
+use denote.Enum.Bare.{same_true, same_false}
+use Rattle.std.specs.Prelude.{Ok}
+use Rattle.expects.proofs.Tokens.{kind_got, kind_not, kind_number_inj}
+use Rattle.expects.specs.Tokens.{kind_number}
+use Rattle.token.specs.contracts.TokenKind.{the_type}
 use Rattle.expects.proofs.expect_kind.Goals as goal
 
-pub returns-then-kind_number : goal.returns-then-kind_number
-returns-then-kind_number c = λ s at q. kind_got s _ at _ q _ c.in-Got.is (sym c.kind_number.ensures ∙ c.if-kind_number.true ∙ c.kind_number-in-Got.ensures)
+pub returns-then-eq : goal.returns-then-eq
+returns-then-eq c = λ next at q. kind_got next c.args.wanted at (Ok c.args.t) q c.args.t refl (ap kind_number (same_true the_type _ _ _ (sym c.if-eq.ensures)))
 
-pub returns-in-Refused : goal.returns-in-Refused
-returns-in-Refused c = λ s at q. kind_refused s _ at _ q _ c.in-Refused.is
-
-pub returns-else-kind_number : goal.returns-else-kind_number
-returns-else-kind_number c = λ s at q. kind_not s _ at _ q _ c.in-Got.is (λ e. c.if-kind_number.false (c.kind_number.ensures ∙ e ∙ sym c.kind_number-in-Got.ensures)) _ c.refused_at.ensures
+pub returns : goal.returns
+returns c = λ next at q. kind_not next c.args.wanted at (Ok c.args.t) q c.args.t refl (λ e. same_false the_type _ _ (sym c.if-eq.ensures) (kind_number_inj _ _ e)) c.at.result c.at.ensures

@@ -1,11 +1,7 @@
 -- `lines::put_declarations` meets its contract.
-use Prim.Native.Nat.{◌-◌, ◌≤◌}
 use Rattle.text.proofs.Writing.{Put}
 use Rattle.lines.specs.Listing.{declaration_lines}
 use Rattle.lines.proofs.put_declarations.Given as goal
 
 abbrev pub invariant-loop-k : goal.invariant-loop-k
-invariant-loop-k l = Put l.initial.out l.initial.pos (declaration_lines l.s l.declarations l.k 0) l.out l.pos × (l.k ≤ l.count)
-
-abbrev pub decreases-loop-k : goal.decreases-loop-k
-decreases-loop-k l = l.count - l.k
+invariant-loop-k l = Put l.initial.out l.at (declaration_lines l.s l.declarations l.k 0) l.out l.pos

@@ -1,11 +1,7 @@
 -- `lines::put_numbers` meets its contract.
-use Prim.Native.Nat.{◌-◌, ◌≤◌}
 use Rattle.text.proofs.Writing.{Put}
 use Rattle.lines.specs.Listing.{numbers}
 use Rattle.lines.proofs.put_numbers.Given as goal
 
 abbrev pub invariant-loop-j : goal.invariant-loop-j
-invariant-loop-j l = Put l.initial.out l.initial.pos (numbers l.j l.t l.i) l.out l.pos × (l.j ≤ l.n)
-
-abbrev pub decreases-loop-j : goal.decreases-loop-j
-decreases-loop-j l = l.n - l.j
+invariant-loop-j l = Put l.initial.out l.at (numbers l.j l.t l.i) l.out l.pos

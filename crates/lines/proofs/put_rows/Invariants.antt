@@ -1,11 +1,7 @@
 -- `lines::put_rows` meets its contract.
-use Prim.Native.Nat.{◌-◌, ◌≤◌}
 use Rattle.text.proofs.Writing.{Put}
 use Rattle.lines.specs.Listing.{row_lines}
 use Rattle.lines.proofs.put_rows.Given as goal
 
 abbrev pub invariant-loop-k : goal.invariant-loop-k
-invariant-loop-k l = Put l.initial.out l.initial.pos (row_lines l.s l.core l.k 0) l.out l.pos × (l.k ≤ l.rows)
-
-abbrev pub decreases-loop-k : goal.decreases-loop-k
-decreases-loop-k l = l.rows - l.k
+invariant-loop-k l = Put l.initial.out l.at (row_lines l.s l.core l.k 0) l.out l.pos

@@ -9,7 +9,7 @@ use Rattle.lister.proofs.list_by.Goals as goal
 
 pub returns : goal.returns
 unfolding listing_text
-returns c =
+returns g c =
     let a = c.args in
     let k = c.load_by-answer in
     let p = c.put_text-length in

@@ -7,7 +7,7 @@ use Rattle.loader.proofs.Left.{left_by_load}
 use Rattle.loader.proofs.load_by.Goals as goal
 
 pub returns : goal.returns
-returns c =
+returns g c =
     let a = c.args in
     let k = c.load_tables-answer in
     let m = c.row_count-rows.ensures in

@@ -1,68 +1,44 @@
 -- `parser::read_term` meets its contract. The loop's invariant is `Reading`, its measure the weight of the state.
-use borrow.Author.Tests.{not-true, not-false}
-use mathlib.Core.Path.{sym, ◌∙◌, subst}
-use mathlib.Core.Bool.{false≢true}
+use mathlib.Core.Path.{sym, ◌∙◌}
 use native.Mathlib.Omega.{arith}
-use Rattle.expects.specs.Formats.{edition}
-use Rattle.parser.specs.Machine.{setting, Steps}
-use Rattle.parser.specs.declared.TermStep.{TermStep}
-use Rattle.parser.proofs.Loop.{as_inside, ready_inside, ready_by, start, went, next, finished, stopped}
+use borrow.Author.Tests.{not-false}
+use Rattle.std.proofs.lemmas.Result.{err_from_is_err_and}
+use Rattle.parser.proofs.Loop.{as_inside, ready_inside, start, went, next, finished, stopped}
 use Rattle.parser.proofs.read_term.Goals as goal
 
-pub returns-then-not-is_ready-clause-by_lengths : goal.returns-then-not-is_ready-clause-by_lengths
-returns-then-not-is_ready-clause-by_lengths c =
-    λ h b. let e = c.is_ready.ensures in
-    let t = not-true _ c.if-not-is_ready.true-raw in
-    let r = ready_by c.args.s.now c.args.work.now c.args.at c.args.rows h b in
-    absurd (false≢true (sym t ∙ e ∙ r))
+pub loop-st-init : goal.loop-st-init
+loop-st-init c = start c.args.input.format c.args.input.bytes.now c.args.limit c.args.table.now c.args.work.now c.args.at c.args.rows (ready_inside c.args.input.bytes.now c.args.work.now c.args.at c.args.rows (sym c.is_ready.ensures ∙ not-false _ c.if-not-is_ready.false-raw))
 
-pub returns-then-not-is_ready-clause-term : goal.returns-then-not-is_ready-clause-term
-returns-then-not-is_ready-clause-term c =
-    as_inside c.args.s.now c.args.work.now c.args.at c.args.rows _ c.args.limit c.args.table.now _ _ (returns-then-not-is_ready-clause-by_lengths c)
+pub returns-in_err-st-in-None-clause-by_lengths : goal.returns-in_err-st-in-None-clause-by_lengths
+returns-in_err-st-in-None-clause-by_lengths c =
+    let p = err_from_is_err_and c.from_residual.result c.from_residual.ensures.1 in
+    rw (p.1, p.2) (λ h b. stopped c.args.input.format c.args.input.bytes.now c.args.limit c.args.table.now c.args.work.now c.args.at c.args.rows c.loop-st.table c.loop-st.work c.loop-st.st c.loop-st.invariant c.term_step.result c.term_step.new.table c.term_step.new.work c.term_step.ensures _ c.in_err-st-in-None.was)
 
-pub loop-format-init : goal.loop-format-init
-loop-format-init c = start c.args.format c.args.s.now c.args.limit c.args.table.now c.args.work.now c.args.at c.args.rows (ready_inside c.args.s.now c.args.work.now c.args.at c.args.rows (sym c.is_ready.ensures ∙ not-false _ c.if-not-is_ready.false-raw))
+pub returns-in_err-st-in-None-clause-term : goal.returns-in_err-st-in-None-clause-term
+returns-in_err-st-in-None-clause-term c = as_inside c.args.input.bytes.now c.args.work.now c.args.at c.args.rows _ c.args.limit c.args.table.now _ _ (returns-in_err-st-in-None-clause-by_lengths c)
 
-pub shape_of-table-then-is_ended : goal.shape_of-table-then-is_ended
-shape_of-table-then-is_ended c = c.loop-format.invariant.table_length
+pub returns-in_err-st-in-Some-clause-by_lengths : goal.returns-in_err-st-in-Some-clause-by_lengths
+returns-in_err-st-in-Some-clause-by_lengths c =
+    let p = err_from_is_err_and c.from_residual-in_err-st-in-Some.result c.from_residual-in_err-st-in-Some.ensures.1 in
+    rw (p.1, p.2) (λ h b. stopped c.args.input.format c.args.input.bytes.now c.args.limit c.args.table.now c.args.work.now c.args.at c.args.rows c.loop-st.table c.loop-st.work c.loop-st.st c.loop-st.invariant c.value_step.result c.value_step.new.table c.value_step.new.work c.value_step.ensures _ c.in_err-st-in-Some.was)
 
-pub shape_of-work-then-is_ended : goal.shape_of-work-then-is_ended
-shape_of-work-then-is_ended c = c.loop-format.invariant.work_length
+pub returns-in_err-st-in-Some-clause-term : goal.returns-in_err-st-in-Some-clause-term
+returns-in_err-st-in-Some-clause-term c = as_inside c.args.input.bytes.now c.args.work.now c.args.at c.args.rows _ c.args.limit c.args.table.now _ _ (returns-in_err-st-in-Some-clause-by_lengths c)
 
-pub returns-then-is_ended-clause-by_lengths : goal.returns-then-is_ended-clause-by_lengths
-returns-then-is_ended-clause-by_lengths c = λ h b. finished c.args.format c.args.s.now c.args.limit c.args.table.now c.args.work.now c.args.at c.args.rows c.loop-format.table c.loop-format.work c.loop-format.st c.loop-format.invariant (sym c.is_ended.ensures ∙ c.if-is_ended.true)
+pub returns-in-Some-2-clause-by_lengths : goal.returns-in-Some-2-clause-by_lengths
+returns-in-Some-2-clause-by_lengths c = λ h b. finished c.args.input.format c.args.input.bytes.now c.args.limit c.args.table.now c.args.work.now c.args.at c.args.rows c.loop-st.table c.loop-st.work c.loop-st.st c.loop-st.invariant _ c.in-Some-2.is (omega (arith, c.if-st-gt0.false))
 
-pub returns-then-is_ended-clause-term : goal.returns-then-is_ended-clause-term
-returns-then-is_ended-clause-term c =
-    as_inside c.args.s.now c.args.work.now c.args.at c.args.rows _ c.args.limit c.args.table.now _ _ (returns-then-is_ended-clause-by_lengths c)
+pub returns-in-Some-2-clause-term : goal.returns-in-Some-2-clause-term
+returns-in-Some-2-clause-term c = as_inside c.args.input.bytes.now c.args.work.now c.args.at c.args.rows _ c.args.limit c.args.table.now _ _ (returns-in-Some-2-clause-by_lengths c)
 
-pub next_step-r-requires : goal.next_step-r-requires
-next_step-r-requires c = record { term_inside = c.loop-format.invariant.inside; st_value = sym c.is_ended.ensures ∙ c.if-is_ended.false; class_table = c.requires }
+pub loop-st-smaller-in_ok-st-in-None : goal.loop-st-smaller-in_ok-st-in-None
+loop-st-smaller-in_ok-st-in-None c = (went c.args.input.format c.args.input.bytes.now c.args.limit c.args.table.now c.args.work.now c.args.at c.args.rows c.loop-st.table c.loop-st.work c.loop-st.st c.loop-st.invariant c.term_step.result c.term_step.new.table c.term_step.new.work c.term_step.ensures _ c.in_ok-st-in-None.was).less
 
-pub loop-format-smaller : goal.loop-format-smaller
-loop-format-smaller c =
-    let k = c.next_step-r in
-    let g = subst (λ (x : TermStep). Steps c.args.s.now (setting (edition c.args.format) c.args.s.now c.args.limit) c.loop-format.table c.loop-format.work c.loop-format.st x k.new.table k.new.work) c.in-Go.is k.ensures in
-    (went c.args.format c.args.s.now c.args.limit c.args.table.now c.args.work.now c.args.at c.args.rows c.loop-format.table c.loop-format.work c.loop-format.st c.loop-format.invariant _ _ _ g).less
+pub loop-st-preserved-in_ok-st-in-None : goal.loop-st-preserved-in_ok-st-in-None
+loop-st-preserved-in_ok-st-in-None c = next c.args.input.format c.args.input.bytes.now c.args.limit c.args.table.now c.args.work.now c.args.at c.args.rows c.loop-st.table c.loop-st.work c.loop-st.st c.loop-st.invariant c.term_step.result c.term_step.new.table c.term_step.new.work c.term_step.ensures _ c.in_ok-st-in-None.was c.term_step.auto.table c.term_step.auto.work
 
-pub loop-format-preserved : goal.loop-format-preserved
-loop-format-preserved c =
-    let k = c.next_step-r in
-    let g = subst (λ (x : TermStep). Steps c.args.s.now (setting (edition c.args.format) c.args.s.now c.args.limit) c.loop-format.table c.loop-format.work c.loop-format.st x k.new.table k.new.work) c.in-Go.is k.ensures in
-    next c.args.format c.args.s.now c.args.limit c.args.table.now c.args.work.now c.args.at c.args.rows c.loop-format.table c.loop-format.work c.loop-format.st c.loop-format.invariant _ _ _ g k.auto.table k.auto.work
+pub loop-st-smaller : goal.loop-st-smaller
+loop-st-smaller c = (went c.args.input.format c.args.input.bytes.now c.args.limit c.args.table.now c.args.work.now c.args.at c.args.rows c.loop-st.table c.loop-st.work c.loop-st.st c.loop-st.invariant c.value_step.result c.value_step.new.table c.value_step.new.work c.value_step.ensures _ c.in_ok-st-in-Some.was).less
 
-pub shape_of-table-in-Refused : goal.shape_of-table-in-Refused
-shape_of-table-in-Refused c = c.next_step-r.auto.table ∙ c.loop-format.invariant.table_length
-
-pub shape_of-work-in-Refused : goal.shape_of-work-in-Refused
-shape_of-work-in-Refused c = c.next_step-r.auto.work ∙ c.loop-format.invariant.work_length
-
-pub returns-in-Refused-clause-by_lengths : goal.returns-in-Refused-clause-by_lengths
-returns-in-Refused-clause-by_lengths c =
-    λ h b. let k = c.next_step-r in
-    let g = subst (λ (x : TermStep). Steps c.args.s.now (setting (edition c.args.format) c.args.s.now c.args.limit) c.loop-format.table c.loop-format.work c.loop-format.st x k.new.table k.new.work) c.in-Refused.is k.ensures in
-    stopped c.args.format c.args.s.now c.args.limit c.args.table.now c.args.work.now c.args.at c.args.rows c.loop-format.table c.loop-format.work c.loop-format.st c.loop-format.invariant _ _ (g.1 512 c.loop-format.invariant.inside.deepest (omega arith))
-
-pub returns-in-Refused-clause-term : goal.returns-in-Refused-clause-term
-returns-in-Refused-clause-term c =
-    as_inside c.args.s.now c.args.work.now c.args.at c.args.rows _ c.args.limit c.args.table.now _ _ (returns-in-Refused-clause-by_lengths c)
+pub loop-st-preserved : goal.loop-st-preserved
+loop-st-preserved c = next c.args.input.format c.args.input.bytes.now c.args.limit c.args.table.now c.args.work.now c.args.at c.args.rows c.loop-st.table c.loop-st.work c.loop-st.st c.loop-st.invariant c.value_step.result c.value_step.new.table c.value_step.new.work c.value_step.ensures _ c.in_ok-st-in-Some.was c.value_step.auto.table c.value_step.auto.work

@@ -1,29 +1,30 @@
 -- `parser::term_step` meets its contract.
 use mathlib.Core.Path.{sym, ◌∙◌, ap}
 use native.Mathlib.Omega.{arith}
+use Rattle.std.proofs.lemmas.Result.{err_from_is_err_and}
+use Rattle.std.specs.Prelude.{Ok}
 use Rattle.parser.specs.TermRows.{refused}
 use Rattle.term_rows.specs.TermRows.{pushed_row}
 use Rattle.parser.proofs.Readers.{setting_sound}
 use Rattle.parser.proofs.Steps.{inside_within, pushed_bounded, refused_step, leaf_step, open_step, deep_step}
 use Rattle.parser.proofs.term_step.Goals as goal
 
-pub returns-then-depth-lt-FRAMES : goal.returns-then-depth-lt-FRAMES
-returns-then-depth-lt-FRAMES c =
+pub returns-in_err-label : goal.returns-in_err-label
+returns-in_err-label c =
     let a = c.args in
     let i = c.requires in
-    let d = c.deeper-most.ensures in
-    let k = c.open_frame in (
-      (omega (arith, d), omega (arith, d, c.if-depth-lt-FRAMES.true, i.term_inside.deepest)),
-      λ l f g.
-          open_step a.s.now _ (setting_sound a.format a.s.now a.limit l) a.table.now a.work.now a.st (inside_within a.s.now a.work.now a.st i.term_inside l f g) _ i.have_value (c.begin_term-begun.ensures i.term_inside.source) _ _ _ _
-          c.in-Frame.is d k.ensures k.auto.work,
-    )
+    let p = err_from_is_err_and c.from_residual.result c.from_residual.ensures.1 in
+    rw (p.1, p.2) (tt, λ l f g. refused_step a.input.bytes.now _ (setting_sound a.input.format a.input.bytes.now a.limit l) a.table.now a.work.now a.st (inside_within a.input.bytes.now a.work.now a.st i.term_inside l f g) _ i.no_value (c.begin_term.ensures i.term_inside.source) _ c.in_err-label.was)
 
-pub returns-in-Refused : goal.returns-in-Refused
-returns-in-Refused c =
+pub returns-then-st-lt-FRAMES : goal.returns-then-st-lt-FRAMES
+returns-then-st-lt-FRAMES c =
     let a = c.args in
     let i = c.requires in
-    (tt, λ l f g. refused_step a.s.now _ (setting_sound a.format a.s.now a.limit l) a.table.now a.work.now a.st (inside_within a.s.now a.work.now a.st i.term_inside l f g) _ i.have_value (c.begin_term-begun.ensures i.term_inside.source) _ c.in-Refused.is)
+    let d = c.max.ensures in
+    let k = c.open_frame in (
+      (omega (arith, d), omega (arith, d, c.if-st-lt-FRAMES.true, i.term_inside.deepest)),
+      λ l f g. open_step a.input.bytes.now _ (setting_sound a.input.format a.input.bytes.now a.limit l) a.table.now a.work.now a.st (inside_within a.input.bytes.now a.work.now a.st i.term_inside l f g) _ i.no_value (c.begin_term.ensures i.term_inside.source) _ _ _ _ (c.in_ok-label.was ∙ ap Ok c.in-Frame.is) d k.ensures k.auto.work,
+    )
 
 pub returns-in-Leaf : goal.returns-in-Leaf
 returns-in-Leaf c =
@@ -31,16 +32,13 @@ returns-in-Leaf c =
     let i = c.requires in
     let k = c.push_term in (
       pushed_bounded a.st a.limit _ _ _ _ i.term_inside.deepest k.ensures.value,
-      λ l f g.
-          leaf_step a.s.now _ (setting_sound a.format a.s.now a.limit l) a.table.now a.work.now a.st (inside_within a.s.now a.work.now a.st i.term_inside l f g) _ i.have_value (c.begin_term-begun.ensures i.term_inside.source) _ _ _ _
-          c.in-Leaf.is k.ensures.value (k.ensures.table_after ∙ ap (pushed_row a.limit a.table.now a.st.rows) c.term_row-row.ensures),
+      λ l f g. leaf_step a.input.bytes.now _ (setting_sound a.input.format a.input.bytes.now a.limit l) a.table.now a.work.now a.st (inside_within a.input.bytes.now a.work.now a.st i.term_inside l f g) _ i.no_value (c.begin_term.ensures i.term_inside.source) _ _ _ _ (c.in_ok-label.was ∙ ap Ok c.in-Leaf.is) k.ensures.value (k.ensures.table_after ∙ ap (pushed_row a.limit a.table.now a.st.rows) c.term_row-row.ensures),
     )
 
-pub returns-else-depth-lt-FRAMES : goal.returns-else-depth-lt-FRAMES
-returns-else-depth-lt-FRAMES c =
+pub returns-else-st-lt-FRAMES : goal.returns-else-st-lt-FRAMES
+returns-else-st-lt-FRAMES c =
     let a = c.args in
     let i = c.requires in (
       tt,
-      λ l f g. deep_step a.s.now _ (setting_sound a.format a.s.now a.limit l) a.table.now a.work.now a.st (inside_within a.s.now a.work.now a.st i.term_inside l f g) _ i.have_value (c.begin_term-begun.ensures i.term_inside.source) _ _
-          c.in-Frame.is (omega (arith, c.if-depth-lt-FRAMES.false, i.term_inside.depth, i.term_inside.deepest, f, g)) ∙ ap refused (sym c.refused_nowhere.ensures),
+      λ l f g. deep_step a.input.bytes.now _ (setting_sound a.input.format a.input.bytes.now a.limit l) a.table.now a.work.now a.st (inside_within a.input.bytes.now a.work.now a.st i.term_inside l f g) _ i.no_value (c.begin_term.ensures i.term_inside.source) _ _ (c.in_ok-label.was ∙ ap Ok c.in-Frame.is) (omega (arith, c.if-st-lt-FRAMES.false, i.term_inside.depth, i.term_inside.deepest, f, g)) ∙ ap refused (sym c.nowhere.ensures),
     )

@@ -1,9 +1,8 @@
 -- `plain::begin_term` meets its contract.
 use Prim.Native.Nat.{ℕ}
 use mathlib.Core.Path.{◌≡◌, sym, ◌∙◌}
-use mathlib.Core.List.{[], ◌∷◌}
 use native.Mathlib.Omega.{arith}
-use types.Run.{miss}
+use Rattle.std.proofs.lemmas.Result.{err_from_is_err_and}
 use Rattle.token.specs.declared.TokenKind.{TokenKind}
 use Rattle.expects.specs.Formats.{edition}
 use Rattle.expects.proofs.Formats.{bounded}
@@ -13,24 +12,24 @@ use Rattle.plain.proofs.begin_term.Goals as goal
 
 pub begin_bare-requires : goal.begin_bare-requires
 begin_bare-requires c =
-    next_inside (source c.args.format _) _ _ (sym c.lex-l.ensures ∙ c.in-Got.is)
+    next_inside (source c.args.input.now.format _) _ _ (sym c.lex.ensures ∙ c.in_ok-t.was)
     (λ q. let z : ◌≡◌ {A = ℕ} 0 1 = cc c.in-Atom.is in omega arith)
 
-pub returns-in-Refused : goal.returns-in-Refused
-returns-in-Refused c = term_refused (edition c.args.format) (bounded c.args.format) _ _ _ c.lex-l.ensures _ c.in-Refused.is
+pub returns-in_err-t : goal.returns-in_err-t
+returns-in_err-t c =
+    let p = err_from_is_err_and c.from_residual.result c.from_residual.ensures.1 in
+    rw (p.1, p.2) (term_refused (edition c.args.input.now.format) (bounded c.args.input.now.format) _ _ _ c.lex.ensures _ c.in_err-t.was)
 
 pub returns-in-LParen : goal.returns-in-LParen
 returns-in-LParen c =
-    term_on (edition c.args.format) (bounded c.args.format) _ _ _ c.lex-l.ensures _ c.in-Got.is TokenKind.LParen c.in-LParen.is
-    (λ q. let z : ◌≡◌ {A = ℕ} 0 1 = cc in omega arith) c.begin_form.result c.begin_form.ensures
+    term_on (edition c.args.input.now.format) (bounded c.args.input.now.format) _ _ _ c.lex.ensures _ c.in_ok-t.was TokenKind.LParen c.in-LParen.is
+    (λ q. let z : ◌≡◌ {A = ℕ} 0 1 = cc in omega arith) _ c.begin_form.ensures
 
 pub returns-in-Atom : goal.returns-in-Atom
 returns-in-Atom c =
-    term_on (edition c.args.format) (bounded c.args.format) _ _ _ c.lex-l.ensures _ c.in-Got.is TokenKind.Atom c.in-Atom.is
-    (λ q. let z : ◌≡◌ {A = ℕ} 0 1 = cc in omega arith) c.begin_bare.result (c.begin_bare.ensures c.args.format)
+    term_on (edition c.args.input.now.format) (bounded c.args.input.now.format) _ _ _ c.lex.ensures _ c.in_ok-t.was TokenKind.Atom c.in-Atom.is
+    (λ q. let z : ◌≡◌ {A = ℕ} 0 1 = cc in omega arith) _ (c.begin_bare.ensures c.args.input.now.format)
 
 pub returns-in_default : goal.returns-in_default
 returns-in_default c =
-    term_not (edition c.args.format) (bounded c.args.format) _ _ _ c.lex-l.ensures _ c.in-Got.is
-    c.in_default.not-LParen
-    c.in_default.not-Atom _ c.refused_at.ensures
+    term_not (edition c.args.input.now.format) (bounded c.args.input.now.format) _ _ _ c.lex.ensures _ c.in_ok-t.was c.in_default.not-LParen c.in_default.not-Atom _ c.at.ensures

@@ -6,20 +6,20 @@ use Rattle.loader.proofs.Cleared.{cleared_whole}
 use Rattle.printer.proofs.Finishing.{print_refused, print_done}
 use Rattle.printer.proofs.print.Goals as goal
 
-pub returns-in-Refused : goal.returns-in-Refused
-returns-in-Refused c =
+pub returns-in-Err : goal.returns-in-Err
+returns-in-Err c =
     let a = c.args in
-    let k = c.load-loaded in
-    let f = c.refused_by_loading in
+    let k = c.load in
+    let f = c.clear_bytes in
     let z = lengths (tables a.surface.now a.core.now a.declarations.now a.work.now) in
-    print_refused a.s.now z (length a.text.now) k.result k.new.surface k.new.core k.new.declarations k.new.work k.ensures c.in-Refused.refusal f.result f.new.text c.in-Refused.is
-    f.ensures.value (f.ensures.text_after ∙ cleared_whole a.text.now)
+    print_refused a.s.now z (length a.text.now) k.result k.new.surface k.new.core k.new.declarations k.new.work k.ensures c.in-Err.refusal _ f.new.out c.in-Err.is
+    refl (f.ensures ∙ cleared_whole a.text.now)
 
-pub returns-in-Loaded : goal.returns-in-Loaded
-returns-in-Loaded c =
+pub returns-in-Ok : goal.returns-in-Ok
+returns-in-Ok c =
     let a = c.args in
-    let k = c.load-loaded in
+    let k = c.load in
     let f = c.print_loaded in
     let z = lengths (tables a.surface.now a.core.now a.declarations.now a.work.now) in
-    print_done a.s.now z (length a.text.now) k.result k.new.surface k.new.core k.new.declarations k.new.work k.ensures c.in-Loaded.rows c.in-Loaded.count a.text.now f.result
-    (tables f.new.surface f.new.core f.new.declarations f.new.work) f.new.text c.in-Loaded.is refl f.ensures
+    print_done a.s.now z (length a.text.now) k.result k.new.surface k.new.core k.new.declarations k.new.work k.ensures c.in-Ok.loaded.rows c.in-Ok.loaded.declarations a.text.now f.result
+    (tables f.new.surface f.new.core f.new.declarations f.new.work) f.new.text c.in-Ok.is refl f.ensures

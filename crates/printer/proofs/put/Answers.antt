@@ -1,25 +1,29 @@
--- `printer::put` meets its contract.
-use mathlib.Core.Path.{refl}
-use Rattle.printer.proofs.Ends.{bytes_none, bytes_more, bytes_all}
-use Rattle.printer.proofs.Ends.{bytes_more}
+-- `printer::put` meets its contract: the bytes behind those that are left are put.
+use Rattle.std.proofs.Common.{refl}
+use Rattle.printer.proofs.Ends.{back_none, back_more, back_all}
 use borrow.Author.Rules.{rules}
 use Rattle.printer.proofs.put.Goals as goal
 
-pub loop-i-init : goal.loop-i-init
-loop-i-init c = let a = c.args in (search rules, refl, bytes_none a.out.now a.at a.bytes.now)
+pub loop-byte-init : goal.loop-byte-init
+loop-byte-init c = record {
+  next = tt;
+  finite = tt;
+  long = refl;
+  so_far = back_none c.args.out.now c.args.at c.args.bytes.now _ c.args.out.now c.args.at cc;
+}
 
-pub loop-i-preserved : goal.loop-i-preserved
-loop-i-preserved c =
+pub loop-byte-preserved : goal.loop-byte-preserved
+loop-byte-preserved c =
+    let l = c.loop-byte in
     let k = c.put_byte-pos in
-    let l = c.loop-i in
-    let a = c.args in
-    (search rules, search rules, bytes_more a.out.now a.at a.bytes.now l.i l.out l.pos k.new.out k.result (search rules) l.invariant.0 l.invariant.2 k.ensures)
-
-pub shape_of-out : goal.shape_of-out
-shape_of-out c = c.loop-i.invariant.1
+    record {
+      next = tt;
+      finite = tt;
+      long = search rules;
+      so_far = back_more c.args.out.now c.args.at c.args.bytes.now _ l.out l.pos _ c.in-Some.byte.now k.new.out k.result c.in-Some.ensures.steps l.invariant.so_far k.ensures;
+    }
 
 pub returns : goal.returns
 returns c =
-    let l = c.loop-i in
-    let a = c.args in
-    bytes_all a.out.now a.at a.bytes.now l.i l.out l.pos (search rules) l.invariant.2
+    let l = c.loop-byte in
+    back_all c.args.out.now c.args.at c.args.bytes.now _ l.out l.pos c.in-None.ensures.steps.0 l.invariant.so_far

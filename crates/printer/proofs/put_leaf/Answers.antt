@@ -1,5 +1,4 @@
 -- `printer::put_leaf` meets its contract.
-use mathlib.Core.Logic.{⊎_elim}
 use native.Mathlib.Omega.{arith}
 use mathlib.Core.Path.{sym}
 use Rattle.printer.proofs.Ends.{◌then◌, puts_as}

@@ -10,6 +10,3 @@ abbrev pub invariant-loop-k : goal.invariant-loop-k
 invariant-loop-k l =
     (length l.work ≡ length l.initial.work) × (length l.out ≡ length l.initial.out)
     × Onward l.initial.work l.initial.out l.initial.here.at l.initial.here.top (down (step_row l.s l.core (length l.initial.work)) l.from (l.to - l.from)) l.work l.out l.here.at l.here.top (down (step_row l.s l.core (length l.initial.work)) l.from (l.k - l.from))
-
-abbrev pub decreases-loop-k : goal.decreases-loop-k
-decreases-loop-k l = l.k

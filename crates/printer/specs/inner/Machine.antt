@@ -1,7 +1,8 @@
 -- How the text is made from the rows: from the last to the first, with a stack of the terms whose arguments are not all written yet. Rows are
 -- stored in the order in which terms are completed, so that no row's children are looked up: a term's row comes first, then those of its
 -- last argument, and so on.
-use Rattle.std.specs.Prelude.{◌≡◌, List, [], ◌∷◌, ◌++◌, Bool, true, false, cond, ℕ, zero, suc, ◌+◌, ◌-◌, ◌*◌, ◌/◌, ◌%◌, ◌≤◌, ◌<◌, eqb, length, get_or}
+use Rattle.token.specs.declared.Class.{Class}
+use Rattle.std.specs.Prelude.{◌≡◌, List, [], ◌∷◌, ◌++◌, Bool, true, false, cond, ℕ, zero, suc, ◌+◌, ◌-◌, ◌*◌, ◌/◌, ◌%◌, ◌≤◌, ◌<◌, eqb, length, get_or, Ok, Err}
 use Rattle.std.proofs.Math.Option.{none, some}
 use Rattle.terms.specs.Forms.{form_of_kind, arity_of, universe, holds_span_in}
 use Rattle.terms.specs.Label.{Name, part, Named}
@@ -10,8 +11,7 @@ use Rattle.surface.specs.Reader.{nowhere}
 use Rattle.surface.specs.Tables.{Tables, tables, lengths, blank}
 use Rattle.rows.specs.DeclarationRows.{row_behind, first_row}
 use Rattle.terms.specs.TextForms.{text_forms}
-use Rattle.printing.specs.declared.Printed.{Printed}
-use Rattle.printing.specs.declared.Printed.TheVariants.{Text, Refused}
+use Rattle.printing.specs.Answer.{Printed}
 use Rattle.printing.specs.Decimal.{decimal}
 use Rattle.printing.specs.Printing.{print_form, declaration_word, text_head}
 use Rattle.printing.specs.PrintCall.{print_leaves}
@@ -127,6 +127,6 @@ whole s core declarations limit count =
 pub record Finishes (m : Machine) (before : Tables) (text : List ℕ) (r : Printed) (after : Tables) (text₁ : List ℕ) : Type 0 where
   pub fits : m.stack ≡ [] → length m.text ≤ length text
       → print_leaves r after text₁
-      ≡ print_leaves (Text (length m.text)) (tables before.surface before.core before.declarations (pad (length before.work) [])) (pad (length text) m.text)
+      ≡ print_leaves (Ok (length m.text)) (tables before.surface before.core before.declarations (pad (length before.work) [])) (pad (length text) m.text)
   pub over : m.stack ≡ [] → length text < length m.text
-      → print_leaves r after text₁ ≡ print_leaves (Refused (nowhere 14)) (blank (lengths before)) (pad (length text) [])
+      → print_leaves r after text₁ ≡ print_leaves (Err (nowhere Class.TextShort)) (blank (lengths before)) (pad (length text) [])

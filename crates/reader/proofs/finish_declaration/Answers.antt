@@ -1,13 +1,12 @@
 -- `reader::finish_declaration` meets its contract.
+use Rattle.std.proofs.lemmas.Result.{err_from_is_err_and}
 use Rattle.reader.proofs.Declarations.{end_refused, end_got}
 use Rattle.reader.proofs.finish_declaration.Goals as goal
 
-pub returns-in-Refused : goal.returns-in-Refused
-returns-in-Refused c =
-    let a = c.args in
-    end_refused a.format a.s.now a.at _ _ _ _ _ _ c.expect_rparen-l.ensures _ c.in-Refused.is
+pub returns-in_err-close : goal.returns-in_err-close
+returns-in_err-close c =
+    let p = err_from_is_err_and c.from_residual.result c.from_residual.ensures.1 in
+    rw (p.1, p.2) (end_refused c.args.input.format c.args.input.bytes.now c.args.at _ _ _ _ _ _ c.expect_rparen.ensures _ c.in_err-close.was)
 
-pub returns-in-Got : goal.returns-in-Got
-returns-in-Got c =
-    let a = c.args in
-    end_got a.format a.s.now a.at _ _ _ _ _ _ c.expect_rparen-l.ensures _ c.in-Got.is _ c.store_record.ensures.table_after
+pub returns : goal.returns
+returns c = end_got c.args.input.format c.args.input.bytes.now c.args.at _ _ _ _ _ _ c.expect_rparen.ensures _ c.in_ok-close.was _ c.store_record.ensures.table_after

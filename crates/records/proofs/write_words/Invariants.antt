@@ -1,10 +1,7 @@
--- `records::write_words` meets its contract: after k turns the table is `words_of` of the first k records.
-use Rattle.std.proofs.Common.{length, ◌-◌, ◌≡◌, ◌≤◌}
+-- `records::write_words` meets its contract: the table is `words_of` of the records before k.
+use Rattle.std.proofs.Common.{◌≡◌}
 use Rattle.records.proofs.Worded.{worded}
 use Rattle.records.proofs.write_words.Given as goal
 
 abbrev pub invariant-loop-k : goal.invariant-loop-k
-invariant-loop-k l = (l.words ≡ worded l.list l.initial.words l.k) × (l.k ≤ length l.list)
-
-abbrev pub decreases-loop-k : goal.decreases-loop-k
-decreases-loop-k l = length l.list - l.k
+invariant-loop-k l = l.words ≡ worded l.list l.initial.words l.k

@@ -1,15 +1,15 @@
 -- `reports::report_listed` meets its contract.
 use mathlib.Core.Path.{sym, ap, ◌∙◌}
-use Rattle.surface.specs.declared.Answer.{Answer}
+use Rattle.surface.specs.Answer.{Answer}
 use Rattle.reports.specs.Numbers.{numbers, report_listed}
 use Rattle.reports.proofs.report_listed.Goals as goal
 
-pub returns-in-Loaded : goal.returns-in-Loaded
-returns-in-Loaded c =
+pub returns-in-Ok : goal.returns-in-Ok
+returns-in-Ok c =
     let l = c.args.listed in
-    ap (λ (x : Answer). numbers (report_listed (record { answer = x; length = l.length }))) (sym c.in-Loaded.is)
+    ap (λ (x : Answer). numbers (report_listed (record { answer = x; length = l.length }))) (sym c.in-Ok.is)
 
-pub returns-in-Refused : goal.returns-in-Refused
-returns-in-Refused c =
+pub returns-in-Err : goal.returns-in-Err
+returns-in-Err c =
     let l = c.args.listed in
-    c.report_refused_text.ensures ∙ ap (λ (x : Answer). numbers (report_listed (record { answer = x; length = l.length }))) (sym c.in-Refused.is)
+    c.report_refused_text.ensures ∙ ap (λ (x : Answer). numbers (report_listed (record { answer = x; length = l.length }))) (sym c.in-Err.is)

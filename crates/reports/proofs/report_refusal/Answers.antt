@@ -1,16 +1,21 @@
 -- `reports::report_refusal` meets its contract.
-use mathlib.Core.Path.{sym, ap}
-use Rattle.token.specs.declared.Place.{Place}
+use Rattle.token.specs.Refusals.{number}
+use Rattle.token.specs.Token.{Place}
+use Prim.Native.Nat.{ℕ}
+use Rattle.std.specs.Prelude.{Some, None}
+use mathlib.Core.Path.{sym, ap, ◌∙◌}
 use Rattle.surface.specs.Reports.{offsets}
 use Rattle.reports.specs.Numbers.{numbers}
 use Rattle.reports.proofs.report_refusal.Goals as goal
 
-pub returns-in-At : goal.returns-in-At
-returns-in-At c =
+pub returns-in-Some : goal.returns-in-Some
+returns-in-Some c =
     let a = c.args in
-    ap (λ (p : Place). numbers (record { number = a.refusal.class; values = offsets p })) (sym c.in-At.is)
+    ap (λ (k : ℕ). numbers (record { number = k; values = offsets (Some c.in-Some.at) })) c.number-number.ensures
+    ∙ ap (λ (p : Place). numbers (record { number = number a.refusal.class; values = offsets p })) (sym c.in-Some.is)
 
-pub returns-in-Nowhere : goal.returns-in-Nowhere
-returns-in-Nowhere c =
+pub returns-in-None : goal.returns-in-None
+returns-in-None c =
     let a = c.args in
-    ap (λ (p : Place). numbers (record { number = a.refusal.class; values = offsets p })) (sym c.in-Nowhere.is)
+    ap (λ (k : ℕ). numbers (record { number = k; values = offsets None })) c.number-number.ensures
+    ∙ ap (λ (p : Place). numbers (record { number = number a.refusal.class; values = offsets p })) (sym c.in-None.is)

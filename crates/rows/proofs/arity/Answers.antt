@@ -5,17 +5,17 @@ use Rattle.terms.specs.Forms.{forms, forms_0_2, form_of_kind, arity_of}
 use Rattle.rows.proofs.Arities.{same_value, arity_digit, arity_by, no_arity_by}
 use Rattle.rows.proofs.arity.Goals as goal
 
-pub returns-then-k-lt3 : goal.returns-then-k-lt3
+pub returns-in-3-to-24 : goal.returns-in-3-to-24
 unfolding forms forms_0_2 form_of_kind arity_of
-returns-then-k-lt3 c =
-    let k = c.core_kind-k in
-    same_value arity_of (λ k. 0) 0 3 k.result refl c.if-k-lt3.true ∙ arity_by k.result c.args.kind k.ensures
+returns-in-3-to-24 c =
+    let k = c.core_kind in
+    rw c.from.ensures (arity_digit _ k.result refl (omega arith) ∙ arity_by k.result c.args.kind k.ensures)
 
-pub returns-then-k-gt24 : goal.returns-then-k-gt24
-returns-then-k-gt24 c = let k = c.core_kind-k in no_arity_by k.result c.args.kind k.ensures c.if-k-gt24.true
-
-pub returns : goal.returns
+pub returns-in_default : goal.returns-in_default
 unfolding forms forms_0_2 form_of_kind arity_of
-returns c =
-    let k = c.core_kind-k in
-    arity_digit _ k.result refl (omega arith) ∙ arity_by k.result c.args.kind k.ensures
+returns-in_default c =
+    let k = c.core_kind in
+    same_value arity_of (λ k. 0) 0 3 k.result refl (omega arith) ∙ arity_by k.result c.args.kind k.ensures
+
+pub returns-in_default-2 : goal.returns-in_default-2
+returns-in_default-2 c = let k = c.core_kind in no_arity_by k.result c.args.kind k.ensures (omega arith)

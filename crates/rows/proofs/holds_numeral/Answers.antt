@@ -1,13 +1,15 @@
 -- `rows::holds_numeral` meets its contract.
-use mathlib.Core.Path.{sym, ap, ◌∙◌}
-use mathlib.Core.Bool.{Bool, not, ◌&&◌}
-use lib.Dec.{leb}
-use borrow.Author.Tests.{eq-eqb, ne_eqb}
+use mathlib.Core.Path.{sym, ◌∙◌}
+use native.Mathlib.Omega.{arith}
+use borrow.Author.Tests.{eq-eqb, ne_eqb, le-leb, lt-leb}
 use Rattle.rows.proofs.Arities.{holds_numeral}
 use Rattle.rows.proofs.holds_numeral.Goals as goal
 
-pub returns-then-kind-eq0 : goal.returns-then-kind-eq0
-returns-then-kind-eq0 c = let k = c.args.kind in sym (holds_numeral k ∙ ap (λ (b : Bool). not b && leb k 3) (eq-eqb k 0 c.if-kind-eq0.true))
+pub returns-in-1-to-3 : goal.returns-in-1-to-3
+returns-in-1-to-3 c = let k = c.args.kind in sym (holds_numeral k ∙ rw (ne_eqb k 0 (λ e. omega arith), le-leb k 3 (omega arith)))
 
-pub returns : goal.returns
-returns c = let k = c.args.kind in sym (holds_numeral k ∙ ap (λ (b : Bool). not b && leb k 3) (ne_eqb k 0 c.if-kind-eq0.false))
+pub returns-in_default : goal.returns-in_default
+returns-in_default c = let k = c.args.kind in sym (holds_numeral k ∙ rw (eq-eqb k 0 (omega arith)))
+
+pub returns-in_default-2 : goal.returns-in_default-2
+returns-in_default-2 c = let k = c.args.kind in sym (holds_numeral k ∙ rw (ne_eqb k 0 (λ e. omega arith), lt-leb k 3 (omega arith)))

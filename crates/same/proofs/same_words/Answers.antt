@@ -1,13 +1,9 @@
 -- `same::same_words` meets its contract: the words before i are equal.
-use Prim.Native.Nat.{◌-◌}
 use mathlib.Core.Path.{sym, ◌∙◌}
 use native.Mathlib.Omega.{arith}
-use borrow.Author.Count.{below_none, below_more}
+use borrow.Author.Count.{below_more}
 use Rattle.same.proofs.Words.{words_same, words_differ}
 use Rattle.same.proofs.same_words.Goals as goal
-
-pub loop-i-init : goal.loop-i-init
-loop-i-init c = (omega arith, below_none _)
 
 pub returns-then-word_at : goal.returns-then-word_at
 returns-then-word_at c =
@@ -15,9 +11,9 @@ returns-then-word_at c =
     words_differ a.n a.a.now a.b.now a.from c.loop-i.i (omega arith) (λ e. c.if-word_at.true (c.word_at.ensures ∙ e ∙ sym c.word_at-in-loop-i.ensures))
 
 pub loop-i-preserved : goal.loop-i-preserved
-loop-i-preserved c = (omega arith, below_more _ _ c.loop-i.invariant.1 (sym c.word_at.ensures ∙ c.if-word_at.false ∙ c.word_at-in-loop-i.ensures))
+loop-i-preserved c = below_more _ _ c.loop-i.invariant (sym c.word_at.ensures ∙ c.if-word_at.false ∙ c.word_at-in-loop-i.ensures)
 
 pub returns : goal.returns
 returns c =
     let a = c.args in
-    words_same a.n a.a.now a.b.now a.from (λ j h. c.loop-i.invariant.1 j (omega arith))
+    words_same a.n a.a.now a.b.now a.from (λ j h. c.loop-i.invariant j (omega arith))

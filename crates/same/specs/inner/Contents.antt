@@ -1,9 +1,8 @@
 -- Rows and records of two pairs of tables, compared by what counts of them.
-use Rattle.std.specs.Prelude.{◌≡◌, List, [], ◌∷◌, Bool, true, false, ℕ, zero, suc, ◌+◌, ◌*◌, ◌≤◌, ◌<◌, get_or}
+use Rattle.std.specs.Prelude.{◌≡◌, List, [], ◌∷◌, Bool, true, false, ℕ, zero, suc, ◌+◌, ◌*◌, ◌≤◌, ◌<◌, get_or, Option, Some, None}
 use Rattle.terms.specs.Label.{part}
 use Rattle.rows.specs.DeclarationRows.{row_behind, first_row}
 use Rattle.terms.specs.Content.{row_content, record_content}
-use Rattle.same.specs.declared.Comparison.{Comparison}
 
 -- The answer of a test, and what it is a test of.
 abbrev pub Decides : Bool → Type 0 → Type 0
@@ -58,8 +57,6 @@ module _ (s core₁ declarations₁ t core₂ declarations₂ : List ℕ) where
     pub there : k < m → k < n → ¬ SameBefore (suc k)
 
   -- What comparing m and n declarations answers.
-  abbrev pub Compared : ℕ → ℕ → Comparison → Type 0
-  Compared m n Comparison.Same = (m ≡ n) × SameBefore m
-  Compared m n (Comparison.Different k) = FirstDifferent m n k × ¬ ((k ≡ m) × (k ≡ n))
-  Compared m n (Comparison.FirstRefused r) = ⊥
-  Compared m n (Comparison.SecondRefused r) = ⊥
+  abbrev pub Compared : ℕ → ℕ → Option ℕ → Type 0
+  Compared m n None = (m ≡ n) × SameBefore m
+  Compared m n (Some k) = FirstDifferent m n k × ¬ ((k ≡ m) × (k ≡ n))

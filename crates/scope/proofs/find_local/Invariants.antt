@@ -1,11 +1,8 @@
 -- `find_local` meets its contract: the names passed are other names.
-use Prim.Native.Nat.{◌-◌, ◌≤◌}
+use Prim.Native.Nat.{◌-◌}
 use Rattle.scope.specs.Scope.{in_scope}
 use Rattle.scope.proofs.Locals.{Passed}
 use Rattle.scope.proofs.find_local.Given as goal
 
 abbrev pub invariant-loop-d : goal.invariant-loop-d
-invariant-loop-d l = (l.d ≤ l.depth) × Passed l.x (in_scope l.s l.work l.depth) (l.depth - l.d) (in_scope l.s l.work l.d)
-
-abbrev pub decreases-loop-d : goal.decreases-loop-d
-decreases-loop-d l = l.d
+invariant-loop-d l = Passed l.x (in_scope l.s l.work l.depth) (l.depth - l.d) (in_scope l.s l.work l.d)

@@ -1,20 +1,19 @@
--- `pop_values` meets its contract.
-use mathlib.Core.Path.{refl, ◌∙◌, ap}
-use native.Mathlib.Omega.{arith}
-use Rattle.stacks.proofs.Popping.{popped, popped_none, popped_more}
+-- `pop_values` meets its contract: the words copied are the values on top.
+use Rattle.std.proofs.Common.{ℕ, ◌+◌, ◌≡◌, sym, ◌∙◌, ap, List, ◌++◌, arith, length, take, drop, replicate, length-drop}
+use mathlib.Core.Path.{ap₂}
+use native.Mathlib.Nat.{add-sub_cancel_left}
+use Rattle.stacks.specs.Stacks.{values_in}
+use Rattle.stacks.proofs.Decoding.{length_values}
+use Rattle.stacks.proofs.Popping.{values_top, padded}
 use Rattle.stacks.proofs.pop_values.Goals as goal
-
-pub loop-i-init : goal.loop-i-init
-loop-i-init c = let a = c.args in (omega arith, popped_none a.work.now a.v)
-
-pub loop-i-preserved : goal.loop-i-preserved
-loop-i-preserved c =
-    let l = c.loop-i in
-    let a = c.args in
-    (omega arith, popped_more a.work.now a.v l.i _ _ (omega arith) refl l.invariant.1)
 
 pub returns : goal.returns
 returns c =
-    let l = c.loop-i in
     let a = c.args in
-    l.invariant.1 ∙ ap (popped a.work.now a.v) (omega arith)
+    let w = a.work.now in
+    let at = 2048 + a.v in
+    let top = drop a.v (values_in w (a.v + a.n)) in
+    let n : length top ≡ a.n = omega (arith, length-drop a.v (values_in w (a.v + a.n)), length_values w (a.v + a.n)) in
+    ap₂ (λ (l : List ℕ) (k : ℕ). l ++ drop k (replicate 6 0))
+    (c.copy_from_slice.ensures.after ∙ ap (λ (k : ℕ). take k (drop at w)) (add-sub_cancel_left at a.n) ∙ sym (values_top w a.v a.n (omega arith))) (sym n)
+    ∙ padded 6 top (omega arith)

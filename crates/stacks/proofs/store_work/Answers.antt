@@ -1,14 +1,6 @@
 -- `store_work` meets its contract.
-use native.Mathlib.Omega.{arith}
-use lib.ListN.{length-set}
 use Rattle.stacks.proofs.Pushing.{work_pushed}
 use Rattle.stacks.proofs.store_work.Goals as goal
-
-pub bounds-work-at-2 : goal.bounds-work-at-2
-bounds-work-at-2 c = simp length-set (omega arith)
-
-pub bounds-work-at-3 : goal.bounds-work-at-3
-bounds-work-at-3 c = simp length-set (omega arith)
 
 pub returns : goal.returns
 returns c =

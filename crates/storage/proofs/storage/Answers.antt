@@ -4,7 +4,7 @@ use mathlib.Core.List.{List, []}
 use Prim.Native.Nat.{ℕ}
 use Rattle.terms.specs.Rows.{pad}
 use Rattle.surface.specs.Tables.{Left, leaves}
-use Rattle.least_storage.specs.declared.Storage.{Storage}
+use Rattle.least_storage.specs.Answer.{Storage}
 use Rattle.loader.proofs.Cleared.{cleared_whole}
 use Rattle.storage.proofs.storage.Goals as goal
 

@@ -16,4 +16,4 @@ pub loop-i-preserved : goal.loop-i-preserved
 loop-i-preserved c = same_byte _ _ _ c.loop-i.invariant (omega arith) c.if-s-i-ge128.false
 
 pub returns : goal.returns
-returns c = ends_all _ _ _ c.loop-i.invariant (omega arith)
+returns c = rw (ends_all _ _ _ c.loop-i.invariant (omega arith))

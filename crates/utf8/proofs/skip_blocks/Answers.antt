@@ -1,21 +1,19 @@
--- `utf8::skip_blocks` meets its contract: each block that it passes is ASCII.
-use mathlib.Core.Path.{sym, ◌∙◌}
-use native.Mathlib.Omega.{arith}
-use borrow.Author.Tests.{not-false}
-use Rattle.utf8.proofs.Runs.{same_none, same_block}
+-- `utf8::skip_blocks` meets its contract: each block that it passes is ASCII, and what is left is behind them.
+use Rattle.std.proofs.Common.{sym, ◌∙◌, arith}
+use Rattle.token.proofs.Chunks.{chunk_left}
+use Rattle.utf8.proofs.Runs.{same_block}
 use Rattle.utf8.proofs.skip_blocks.Goals as goal
 
-pub loop-i-init : goal.loop-i-init
-loop-i-init c = same_none _ _ c.requires
-
-pub overflow_sub-n : goal.overflow_sub-n
-overflow_sub-n c = c.loop-i.invariant.high
-
-pub returns-then-not-ascii_block : goal.returns-then-not-ascii_block
-returns-then-not-ascii_block c = c.loop-i.invariant
-
-pub loop-i-preserved : goal.loop-i-preserved
-loop-i-preserved c = same_block _ _ _ c.loop-i.invariant 64 (omega arith) (sym c.ascii_block.ensures ∙ not-false _ c.if-not-ascii_block.false-raw)
-
-pub returns : goal.returns
-returns c = c.loop-i.invariant
+pub loop-block-preserved : goal.loop-block-preserved
+loop-block-preserved c =
+    let i = c.loop-block.invariant in
+    let t = c.in-Some.ensures.steps in
+    let f = sym i.rest ∙ t.1.0 in
+    let l = t.1.1 ∙ i.size in
+    record {
+      next = omega arith;
+      finite = tt;
+      size = t.0 ∙ i.size;
+      rest = chunk_left c.args.s.now _ _ c.loop-block.behind 64 f l;
+      so_far = same_block _ _ _ i.so_far 64 _ _ f l (sym c.if-not-is_ascii.ensures);
+    }

@@ -1,23 +1,37 @@
--- `utf8::skip_pairs` meets its contract: each sequence that it passes has two bytes.
-use native.Mathlib.Omega.{arith}
-use borrow.Author.Tests.{not-true, not-false}
-use Rattle.utf8.proofs.Pairs.{rest_none, rest_more, stops, not_first, not_second, no_room}
+-- `utf8::skip_pairs` meets its contract: each sequence that it passes has two bytes, and what is left is behind them.
+use Rattle.std.proofs.Common.{sym, ◌∙◌, ap, length, length-drop, arith}
+use Rattle.token.proofs.Chunks.{chunk_left}
+use Rattle.utf8.proofs.Pairs.{rest_more, stops, not_first, not_second, no_room}
 use Rattle.utf8.proofs.skip_pairs.Goals as goal
-
-pub loop-i-init : goal.loop-i-init
-loop-i-init c = rest_none _ _ c.requires
-
-pub overflow_sub-n : goal.overflow_sub-n
-overflow_sub-n c = c.loop-i.invariant.high
+use Rattle.utf8.proofs.skip_pairs.Goals.{then-not-between-via-then-not-between, then-not-between-via-else-not-between+then-not-between-2}
 
 pub returns-then-not-between : goal.returns-then-not-between
-returns-then-not-between c = stops _ _ _ c.loop-i.invariant (not_first _ _ c.between.ensures (not-true _ c.if-not-between.true-raw))
+returns-then-not-between c =
+    let i = c.loop-pair.invariant in
+    let t = c.in-Some.ensures.steps in
+    let f = sym i.rest ∙ t.1.0 in
+    let l = t.1.1 ∙ i.size in
+    stops _ _ _ i.so_far (elim c.then-not-between.branch [
+      | then-not-between-via-then-not-between w ↦ not_first _ _ _ _ f l w.if-not-between.ensures
+      | then-not-between-via-else-not-between+then-not-between-2 w ↦ not_second _ _ _ _ f l i.so_far.high w.if-not-between.ensures w.if-not-between-2.ensures
+    ])
 
-pub returns-then-not-between-2 : goal.returns-then-not-between-2
-returns-then-not-between-2 c = stops _ _ _ c.loop-i.invariant (not_second _ _ (omega arith) c.between.ensures (not-false _ c.if-not-between.false-raw) c.between-in-loop-i.ensures (not-true _ c.if-not-between-2.true-raw))
-
-pub loop-i-preserved : goal.loop-i-preserved
-loop-i-preserved c = rest_more _ _ _ c.loop-i.invariant (omega arith) c.between.ensures (not-false _ c.if-not-between.false-raw) c.between-in-loop-i.ensures (not-false _ c.if-not-between-2.false-raw)
+pub loop-pair-preserved : goal.loop-pair-preserved
+loop-pair-preserved c =
+    let i = c.loop-pair.invariant in
+    let t = c.in-Some.ensures.steps in
+    let f = sym i.rest ∙ t.1.0 in
+    let l = t.1.1 ∙ i.size in
+    record {
+      next = omega arith;
+      finite = tt;
+      size = t.0 ∙ i.size;
+      rest = chunk_left c.args.s.now _ _ c.loop-pair.behind 2 f l;
+      so_far = rest_more _ _ _ i.so_far _ _ f l c.if-not-between.ensures c.if-not-between-2.ensures;
+    }
 
 pub returns : goal.returns
-returns c = stops _ _ _ c.loop-i.invariant (no_room _ _ (omega arith))
+returns c =
+    let i = c.loop-pair.invariant in
+    let short = c.in-None.ensures.steps.1.0 in
+    stops _ _ _ i.so_far (no_room _ _ (omega (arith, short, i.size, ap length i.rest, length-drop c.loop-pair.behind c.args.s.now)))

@@ -1,26 +1,20 @@
 -- `words::is_numeral` meets its contract.
-use Prim.Native.Nat.{◌-◌}
-use mathlib.Core.Path.{sym, ◌∙◌}
-use borrow.Author.Rules.{rules}
-use borrow.Author.Tests.{not-true, not-false}
+use Rattle.std.proofs.Common.{rules, tests, ◌∙◌, arith}
+use Rattle.std.proofs.lemmas.Iterator.{YieldsList-from_slice}
+use Rattle.std.proofs.lemmas.Iterator.Search.{all_from_yields_List}
 use Rattle.token.specs.Token.{digit}
-use Rattle.words.proofs.Atoms.{all_more, all_not, all_end, numeral_none, numeral_zero, numeral_all}
+use Rattle.words.proofs.Atoms.{numeral_none, numeral_zero, numeral_all}
 use Rattle.words.proofs.is_numeral.Goals as goal
 
-pub returns-then-w-eq0 : goal.returns-then-w-eq0
-returns-then-w-eq0 c = sym (numeral_none _ c.if-w-eq0.true)
+pub returns-in-Some-eq48-default : goal.returns-in-Some-eq48-default
+returns-in-Some-eq48-default c =
+    let arm = c.in-Some-eq48-default in
+    c.is_empty.ensures ∙ numeral_zero _ _ _ arm.ensures.cases.0 arm.field-0-0-test
 
-pub returns-then-w-eq48 : goal.returns-then-w-eq48
-returns-then-w-eq48 c = sym (numeral_zero _ c.if-w-eq48.true)
+pub returns-in-Some : goal.returns-in-Some
+returns-in-Some c =
+    all_from_yields_List digit _ _ _ c.all.ensures.ran (YieldsList-from_slice c.args.w.now cc) (λ x b q k. search (rules, tests))
+    ∙ numeral_all _ _ _ c.in-Some.ensures.cases.0 (λ q. omega arith)
 
-pub loop-i-init : goal.loop-i-init
-loop-i-init c = numeral_all _ c.if-w-eq0.false c.if-w-eq48.false
-
-pub returns-then-not-is_digit : goal.returns-then-not-is_digit
-returns-then-not-is_digit c = sym (c.loop-i.invariant ∙ all_not digit _ c.loop-i.i (search rules) (sym c.is_digit.ensures ∙ not-true _ c.if-not-is_digit.true-raw))
-
-pub loop-i-preserved : goal.loop-i-preserved
-loop-i-preserved c = c.loop-i.invariant ∙ all_more digit _ c.loop-i.i (search rules) (sym c.is_digit.ensures ∙ not-false _ c.if-not-is_digit.false-raw)
-
-pub returns : goal.returns
-returns c = sym (c.loop-i.invariant ∙ all_end digit _ c.loop-i.i (search rules))
+pub returns-in-None : goal.returns-in-None
+returns-in-None c = numeral_none _ c.in-None.ensures.cases

@@ -11,6 +11,6 @@ pub returns-then-is_identifier : goal.returns-then-is_identifier
 unfolding name_test
 returns-then-is_identifier c = rw (sym c.is_reserved.ensures ∙ c.if-is_reserved.false, sym c.is_identifier.ensures ∙ c.if-is_identifier.true)
 
-pub returns : goal.returns
+pub returns-else-is_identifier : goal.returns-else-is_identifier
 unfolding name_test
-returns c = rw (sym c.is_reserved.ensures ∙ c.if-is_reserved.false, sym c.is_identifier.ensures ∙ c.if-is_identifier.false)
+returns-else-is_identifier c = rw (sym c.is_reserved.ensures ∙ c.if-is_reserved.false, sym c.is_identifier.ensures ∙ c.if-is_identifier.false)

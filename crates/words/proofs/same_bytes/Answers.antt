@@ -10,10 +10,11 @@ use Rattle.words.proofs.same_bytes.Goals as goal
 pub returns-then-n-b : goal.returns-then-n-b
 returns-then-n-b c =
     let a = c.args in
-    sym (compared_by_search a.a.now a.b.now ∙ rw (ne_eqb (length a.a.now) (length a.b.now) (λ q. omega arith)))
-
-pub returns : goal.returns
-returns c =
-    let a = c.args in
     ap (λ k. eqb k (length a.a.now)) c.first_difference.ensures
     ∙ sym (compared_by_search a.a.now a.b.now ∙ rw (eq-eqb (length a.a.now) (length a.b.now) (omega arith)))
+
+pub returns-else-n-b : goal.returns-else-n-b
+returns-else-n-b c =
+    let a = c.args in
+    let e = ne_eqb (length a.a.now) (length a.b.now) (λ q. omega arith) in
+    rw e (sym (compared_by_search a.a.now a.b.now ∙ rw e))

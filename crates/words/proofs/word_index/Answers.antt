@@ -19,7 +19,7 @@ longest : Every (covered too_long []) 28
 unfolding reserved_words
 longest = record { computed = refl }
 
-pub returns-then-w-gt11 : goal.returns-then-w-gt11
-returns-then-w-gt11 c =
+pub returns-in_default : goal.returns-in_default
+returns-in_default c =
     let w = c.args.w.now in
     none_of too_long [] w longest (le-leb 12 (length w) (omega arith)) tt

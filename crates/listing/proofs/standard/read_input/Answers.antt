@@ -1,10 +1,13 @@
 -- `listing::standard::read_input` meets its contract: a step's bytes stand behind those before it.
-use Rattle.listing.proofs.Moving.{goes_on}
+use Rattle.std.proofs.Common.{arith}
+use Rattle.listing.proofs.Moving.{goes_on, stays}
 use Rattle.listing.proofs.standard.read_input.Goals as goal
+use Rattle.listing.proofs.standard.read_input.Goals.{in-To, in-Interrupted}
 
-pub loop-turns-preserved-in-To : goal.loop-turns-preserved-in-To
-loop-turns-preserved-in-To g c =
-    let e = c.in-To.ensures in (
-      e.within,
-      goes_on _ _ _ c.loop-turns.done c.in-To.end c.loop-turns.buf c.read_from.new.buf e.bytes.1 c.loop-turns.invariant.1 e.kept e.bytes.0,
-    )
+pub loop-turn-preserved : goal.loop-turn-preserved
+loop-turn-preserved g c =
+    let l = c.loop-turn in
+    elim c.match-read_from.branch [
+      | in-To w ↦ let e = w.in-To.ensures in rw w.done-is (e.within, goes_on _ _ _ l.done w.in-To.end l.buf c.read_from.new.buf e.bytes.1 l.invariant.1 e.kept e.bytes.0)
+      | in-Interrupted w ↦ let e = w.in-Interrupted.ensures in rw w.done-is (omega arith, stays _ _ _ l.done l.buf c.read_from.new.buf l.invariant.1 e.kept e.bytes)
+    ]
