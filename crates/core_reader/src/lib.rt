@@ -17,9 +17,9 @@ use surface::Loaded;
 use token::{Class, Classes, Refusal, Token};
 
 // The two numerals of a version, and the closing parenthesis behind them: whether it is 0 1, and where reading goes on.
-fn read_version(input: Input, at: usize) -> Result<(bool, usize), Refusal>
-    requires { input.format ≡ Format.Core01 }
-    ensures { ReadsVersion (version input.entry.bytes.now) at result }
+fn read_version(input: &Input, at: usize) -> Result<(bool, usize), Refusal>
+    requires { input.now.format ≡ Format.Core01 }
+    ensures { ReadsVersion (version input.now.bytes.now) at result }
 {
     let major = input.parse_natural(at)?;
     let minor = input.parse_natural(major.end)?;
@@ -28,9 +28,9 @@ fn read_version(input: Input, at: usize) -> Result<(bool, usize), Refusal>
 }
 
 // `(format 0 1)`
-fn format_line(input: Input, at: usize) -> Result<(bool, usize), Refusal>
-    requires { input.format ≡ Format.Core01 }
-    ensures { ReadsVersion (format_line input.entry.bytes.now) at result }
+fn format_line(input: &Input, at: usize) -> Result<(bool, usize), Refusal>
+    requires { input.now.format ≡ Format.Core01 }
+    ensures { ReadsVersion (format_line input.now.bytes.now) at result }
 {
     let w = input.expect_tag(at, b"format")?;
     read_version(input, w.end)
@@ -45,9 +45,9 @@ fn is_theory(s: &[u8], name: Token) -> bool
 }
 
 // `(theory "mltt-core" 0 1)`
-fn theory_line(input: Input, at: usize) -> Result<(bool, usize), Refusal>
-    requires { input.format ≡ Format.Core01 }
-    ensures { ReadsVersion (theory_line input.entry.bytes.now) at result }
+fn theory_line(input: &Input, at: usize) -> Result<(bool, usize), Refusal>
+    requires { input.now.format ≡ Format.Core01 }
+    ensures { ReadsVersion (theory_line input.now.bytes.now) at result }
 {
     let w = input.expect_tag(at, b"theory")?;
     let (name, next) = input.parse_name(w.end)?;
@@ -56,9 +56,9 @@ fn theory_line(input: Input, at: usize) -> Result<(bool, usize), Refusal>
 }
 
 // The head, and where reading goes on. Its versions and the theory's name are judged behind the theory's parenthesis.
-fn read_head(input: Input) -> Result<usize, Refusal>
-    requires { input.format ≡ Format.Core01 }
-    ensures { Passes (head input.entry.bytes.now) 0 result }
+fn read_head(input: &Input) -> Result<usize, Refusal>
+    requires { input.now.format ≡ Format.Core01 }
+    ensures { Passes (head input.now.bytes.now) 0 result }
 {
     let w = input.expect_tag(0, b"hott-core")?;
     let (format, next) = format_line(input, w.end)?;
@@ -70,9 +70,9 @@ fn read_head(input: Input) -> Result<usize, Refusal>
 }
 
 // What stands behind the declarations: the closing parenthesis of the whole text, and the end.
-fn read_end(input: Input, at: usize) -> Result<usize, Refusal>
-    requires { input.format ≡ Format.Core01 }
-    ensures { Passes (text_end input.entry.bytes.now) at result }
+fn read_end(input: &Input, at: usize) -> Result<usize, Refusal>
+    requires { input.now.format ≡ Format.Core01 }
+    ensures { Passes (text_end input.now.bytes.now) at result }
 {
     let close = input.expect_rparen(at)?;
     let end = input.expect_end(close.end)?;
@@ -81,14 +81,14 @@ fn read_end(input: Input, at: usize) -> Result<usize, Refusal>
 
 // The declarations behind their tag, and what stands behind them.
 fn read_behind(
-    input: Input,
+    input: &Input,
     table: &mut [u32],
     list: &mut [u32],
     work: &mut [u32],
     at: usize,
 ) -> Result<Loaded, Refusal>
-    requires { input.format ≡ Format.Core01 }
-    ensures { ReadsBehind (behind_tag input.entry.bytes.now (length table.old / 8) (length list.old / 5) (position_at at 0)) input.entry.bytes.now table.old list.old work.old at result table.new list.new }
+    requires { input.now.format ≡ Format.Core01 }
+    ensures { ReadsBehind (behind_tag input.now.bytes.now (length table.old / 8) (length list.old / 5) (position_at at 0)) input.now.bytes.now table.old list.old work.old at result table.new list.new }
 {
     let limits = Limits {
         rows: table.len() / 8,
@@ -118,7 +118,7 @@ pub fn read_text(
         classes: &classes,
         format: Format::Core01,
     };
-    let next = read_head(input)?;
+    let next = read_head(&input)?;
     let w = input.expect_tag(next, b"declarations")?;
-    read_behind(input, table, list, work, w.end)
+    read_behind(&input, table, list, work, w.end)
 }

@@ -1,17 +1,18 @@
 -- Marking and searching in the tables, step by step.
 use mathlib.Core.Path.{◌≡◌, refl, ap, ◌∙◌}
-use mathlib.Core.Bool.{Bool, true, false}
+use mathlib.Core.Bool.{Bool, true, false, cond}
 use mathlib.Core.List.{List}
 use mathlib.Core.Option.{Option, none, some}
 use Prim.Native.Nat.{ℕ, suc, ◌+◌, ◌-◌, ◌<◌, ◌≤◌}
 use native.Mathlib.Omega.{arith}
 use lib.Dec.{ltb}
+use lib.ListN.{length, set, length-set}
 use Rattle.std.specs.Prelude.{Ok}
 use Rattle.std.specs.Bool.{then_some}
 use Rattle.rows.specs.DeclarationRows.{row_behind, first_row}
 use Rattle.dependence.specs.Answer.{Dependence}
 use Rattle.dependence.specs.Asks.{shown}
-use Rattle.depends.specs.inner.Search.{names_marked, first_marked, place_looked_at, places_looked_at, row_or_none, shown_row}
+use Rattle.depends.specs.inner.Search.{names_marked, first_marked, shows_place, place_looked_at, places_looked_at, row_or_none, shown_row}
 
 -- One row more.
 module _ (core work : List ℕ) (to k : ℕ) where
@@ -42,6 +43,15 @@ module _ (core declarations : List ℕ) (j to k : ℕ) (work : List ℕ) where
   pub no_place : to ≤ k → places_looked_at core declarations j (to - k) k work ≡ work
   unfolding places_looked_at
   no_place h = let n : to - k ≡ 0 = omega arith in ap (λ (m : ℕ). places_looked_at core declarations j m k work) n
+
+-- A look at a place keeps the length.
+pub looked_length : (core declarations work : List ℕ) (k j : ℕ) → length (place_looked_at core declarations j k work) ≡ length work
+unfolding place_looked_at
+looked_length core declarations work k j = go (shows_place core declarations work k j)
+  where
+    go : (b : Bool) → length (cond b (set work k 1) work) ≡ length work
+    go true = length-set work k 1
+    go false = refl
 
 -- The row that is shown.
 module _ (core declarations work : List ℕ) (i from to r : ℕ) (e : from ≡ first_row declarations i) (f : to ≡ row_behind declarations i) (g : r ≡ first_marked core work (to - from) from) where

@@ -16,7 +16,7 @@ use Rattle.surface.specs.Reading.{declaration_kind}
 use Rattle.std.specs.Prelude.{Option, Some, None}
 use Rattle.expects.specs.declared.Shape as code
 use Rattle.expects.specs.declared.FormOfWord.{FormOfWord}
-use Rattle.expects.specs.FormOfWord.{told_form, form_at}
+use Rattle.expects.specs.FormOfWord.{told_form, form_at, kind_of}
 use Rattle.expects.proofs.Arities.{both}
 
 pub index_low : (w : List ℕ) (k : ℕ) → k ≡ word_index w → k < 28
@@ -106,6 +106,8 @@ module _ (n : ℕ) where
   abbrev pub form_of : ℕ → Option FormOfWord
   form_of k = Some (record { kind = kind_at k; shape = shape_of (digit k) })
 
-  pub form_by : values form_of 6 22 ≡ values form_at 6 22 → (k kind : ℕ) (shape : code.Shape) → 6 ≤ k → k < 28 → kind ≡ kind_at k → shape ≡ shape_of (digit k)
+  pub form_by : values form_of 6 22 ≡ values form_at 6 22 → (k kind : ℕ) (shape : code.Shape) → 6 ≤ k → k < 28 → kind ≡ kind_of (form_at k) → shape ≡ shape_of (digit k)
       → Some (record { kind = kind; shape = shape }) ≡ form_at k
-  form_by v k kind shape l h d e = rw (d, e) (same_value form_of form_at 6 22 k v l (omega arith))
+  form_by v k kind shape l h d e =
+      let s = same_value form_of form_at 6 22 k v l (omega arith) in
+      rw (d ∙ ap kind_of (sym s), e) s

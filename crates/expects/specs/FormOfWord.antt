@@ -21,6 +21,11 @@ told_form (math.some f) = Some (record { kind = f.kind; shape = told_shape f.sha
 unfoldable pub form_at : ℕ → Option FormOfWord
 form_at k = told_form (form_of_word (get_or ([] ∷ reserved_words) k []) forms)
 
+-- The kind of a form, 0 where there is none.
+abbrev pub kind_of : Option FormOfWord → ℕ
+kind_of (Some f) = f.kind
+kind_of None = 0
+
 -- How a form is written where no name is: not at all where it is nothing but a name.
 abbrev pub unnamed_shape : code.Shape → Option code.Shape
 unnamed_shape code.Shape.Alone = Some code.Shape.Alone

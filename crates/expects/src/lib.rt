@@ -2,7 +2,7 @@
 // The port of `Parser::next_atom`, `expect_*`, `parse_natural`, `parse_identifier` and of what `parse_term` and `parse_module` begin with.
 #![tactic(auto)]
 
-ghost use Rattle.std.specs.Prelude.{◌≡◌, ◌==◌, if◌then◌else◌, ◌-◌, ◌≤◌, ◌<◌, length, Ok, IfSome};
+ghost use Rattle.std.specs.Prelude.{◌≡◌, ◌≤◌, ◌<◌, length, IfSome};
 ghost use Rattle.token.specs.Classes.{NameAt};
 ghost use Rattle.terms.specs.Forms.{forms, forms_0_2, form_of_word};
 ghost use Rattle.terms.specs.TextForms.{text_forms};
@@ -12,8 +12,8 @@ ghost use Rattle.surface.specs.Reading.{opening, closing, atom, word, natural, n
 ghost use Rattle.expects.specs.Expects.{Reads, Begins, ReadsName, Names, Heads};
 ghost use Rattle.expects.specs.declared.Format.{Format};
 ghost use Rattle.expects.specs.Formats.{edition, OfSource, declared_name, ends, tested_name};
-ghost use Rattle.expects.specs.FormOfWord.{told_form, form_at, unnamed};
-ghost use Rattle.expects.specs.Tokens.{TokenInside, IsParen, IsWordAt, OfKind};
+ghost use Rattle.expects.specs.FormOfWord.{told_form, form_at, kind_of, unnamed};
+ghost use Rattle.expects.specs.Tokens.{TokenInside, LexedInside, IsParen, IsWordAt, OfKind};
 ghost use Rattle.expects.specs.Terms.{LabelWith, LabelAlone, BeginsOn, BeginsWith, ClosesLeaf};
 ghost use Rattle.expects.specs.Lines.{tag, is_version, ClosesVersion, SurfaceLine, ModuleLine};
 
@@ -106,7 +106,7 @@ impl Format {
 
     // The form of a word: one search of the words for all formats. It is put in the place of its calls, for the speed of the frame reader.
     #[inline(always)]
-    fn form_of_word(self, w: &[u8]) -> Option<FormOfWord>
+    pub fn form_of_word(self, w: &[u8]) -> Option<FormOfWord>
         ensures { result ≡ told_form (form_of_word w.now (edition self).forms) }
     {
         let form = surface_form(w);
@@ -145,8 +145,8 @@ pub fn declaration_kind(w: &[u8]) -> u32
 
 // The kind of the form of word k: `ref` is word 6, and the words behind it stand in the order of their kinds.
 fn kind_at(k: u32) -> u32
-    requires { 6 ≤ k }
-    ensures { result ≡ (if k == 6 then 24 else k - 4) }
+    requires { (6 ≤ k) × (k < 28) }
+    ensures { result ≡ kind_of (form_at k) }
 {
     if k == 6 { 24 } else { k - 4 }
 }
@@ -262,18 +262,43 @@ pub fn label_alone(kind: u32, offset: usize) -> Label
     }
 }
 
+// The term of a word t that stands without a parenthesis. Such words are the same in all formats.
+pub fn begin_bare(s: &[u8], t: Token) -> Result<TermStart, Refusal>
+    requires { TokenInside (length s.now) t }
+    ensures { (f : Format) → BeginsOn (edition f) s.now t TokenKind.Atom result }
+{
+    let unknown = Refusal::at(Class::Malformed, t.start);
+    let Some(FormOfWord { kind, shape }) = surface_form(&s[t.start..t.end]) else {
+        return Err(unknown);
+    };
+    match shape {
+        Shape::Alone => Ok(TermStart::Leaf(label_alone(kind, t.start), t.end)),
+        _ => Err(unknown),
+    }
+}
+
+// Whether a version is 0 and the numeral w, by its bytes.
+pub fn is_version(s: &[u8], major: Token, minor: Token, w: &[u8]) -> bool
+    requires major { TokenInside (length s.now) major }
+    requires minor { TokenInside (length s.now) minor }
+    ensures { result ≡ is_version s.now major minor w.now }
+{
+    words::same_bytes(&s[major.start..major.end], b"0")
+        && words::same_bytes(&s[minor.start..minor.end], w)
+}
+
 impl<'a> Input<'a> {
     // The bytes of a token.
-    fn text(self, t: Token) -> &'a [u8]
-        requires { TokenInside (length self.bytes.now) t }
-        ensures { result.now ≡ text self.entry.bytes.now t }
+    fn text(&self, t: Token) -> &'a [u8]
+        requires { TokenInside (length self.now.bytes.now) t }
+        ensures { result.now ≡ text self.now.bytes.now t }
     {
         &self.bytes[t.start..t.end]
     }
 
     // The next token of the format.
-    pub fn lex(self, at: usize) -> Result<Token, Refusal>
-        ensures { result ≡ (edition self.entry.format).tokens self.entry.bytes.now at }
+    pub fn lex(&self, at: usize) -> Result<Token, Refusal>
+        ensures { result ≡ (edition self.now.format).tokens self.now.bytes.now at }
     {
         match self.format {
             Format::Core01 => core_token::next_core_token(self.bytes, at),
@@ -282,9 +307,9 @@ impl<'a> Input<'a> {
     }
 
     // The parenthesis of a kind, where it stands at its place: told there, before layout is looked for.
-    fn paren_at(self, at: usize, byte: u8, kind: TokenKind) -> Option<Token>
+    fn paren_at(&self, at: usize, byte: u8, kind: TokenKind) -> Option<Token>
         requires { IsParen byte kind }
-        ensures { IfSome result (λ t. (edition self.entry.format).tokens self.entry.bytes.now at ≡ Ok t) }
+        ensures { IfSome result (λ t. (edition self.now.format).tokens self.now.bytes.now at ≡ Ok t) }
     {
         if at < self.bytes.len() && self.bytes[at] == byte {
             return Some(Token {
@@ -296,8 +321,8 @@ impl<'a> Input<'a> {
         None
     }
 
-    fn open_at(self, at: usize) -> Result<Token, Refusal>
-        ensures { result ≡ (edition self.entry.format).tokens self.entry.bytes.now at }
+    fn open_at(&self, at: usize) -> Result<Token, Refusal>
+        ensures { result ≡ (edition self.now.format).tokens self.now.bytes.now at }
     {
         match self.paren_at(at, b'(', TokenKind::LParen) {
             Some(t) => Ok(t),
@@ -305,8 +330,8 @@ impl<'a> Input<'a> {
         }
     }
 
-    fn close_at(self, at: usize) -> Result<Token, Refusal>
-        ensures { result ≡ (edition self.entry.format).tokens self.entry.bytes.now at }
+    fn close_at(&self, at: usize) -> Result<Token, Refusal>
+        ensures { result ≡ (edition self.now.format).tokens self.now.bytes.now at }
     {
         match self.paren_at(at, b')', TokenKind::RParen) {
             Some(t) => Ok(t),
@@ -315,8 +340,8 @@ impl<'a> Input<'a> {
     }
 
     // One space, as often stands between two tokens, is passed before the token is looked at.
-    fn behind_space(self, at: usize) -> usize
-        ensures { (f : Format) → (edition f).tokens self.entry.bytes.now result ≡ (edition f).tokens self.entry.bytes.now at }
+    fn behind_space(&self, at: usize) -> usize
+        ensures { (f : Format) → (edition f).tokens self.now.bytes.now result ≡ (edition f).tokens self.now.bytes.now at }
     {
         if at < self.bytes.len() && self.bytes[at] == b' ' {
             return at + 1;
@@ -324,41 +349,41 @@ impl<'a> Input<'a> {
         at
     }
 
-    pub fn next_token(self, at: usize) -> Result<Token, Refusal>
-        ensures { result ≡ (edition self.entry.format).tokens self.entry.bytes.now at }
+    pub fn next_token(&self, at: usize) -> Result<Token, Refusal>
+        ensures { result ≡ (edition self.now.format).tokens self.now.bytes.now at }
     {
         self.open_at(self.behind_space(at))
     }
 
-    pub fn expect_lparen(self, at: usize) -> Result<Token, Refusal>
-        ensures { Reads (opening ((edition self.entry.format).tokens self.entry.bytes.now)) at result }
+    pub fn expect_lparen(&self, at: usize) -> Result<Token, Refusal>
+        ensures { Reads (opening ((edition self.now.format).tokens self.now.bytes.now)) at result }
     {
         expect_kind(self.open_at(at)?, TokenKind::LParen)
     }
 
-    pub fn expect_rparen(self, at: usize) -> Result<Token, Refusal>
-        ensures { Reads (closing ((edition self.entry.format).tokens self.entry.bytes.now)) at result }
+    pub fn expect_rparen(&self, at: usize) -> Result<Token, Refusal>
+        ensures { Reads (closing ((edition self.now.format).tokens self.now.bytes.now)) at result }
     {
         expect_kind(self.close_at(at)?, TokenKind::RParen)
     }
 
     // The end of a core text.
-    pub fn expect_end(self, at: usize) -> Result<Token, Refusal>
-        ensures { Reads (end_token ((edition self.entry.format).tokens self.entry.bytes.now)) at result }
+    pub fn expect_end(&self, at: usize) -> Result<Token, Refusal>
+        ensures { Reads (end_token ((edition self.now.format).tokens self.now.bytes.now)) at result }
     {
         expect_kind(self.lex(at)?, TokenKind::Eof)
     }
 
     // The next token, which must be an atom.
-    fn lexed_atom(self, at: usize) -> Result<Token, Refusal>
-        ensures { Reads (atom ((edition self.entry.format).tokens self.entry.bytes.now)) at result }
+    fn lexed_atom(&self, at: usize) -> Result<Token, Refusal>
+        ensures { Reads (atom ((edition self.now.format).tokens self.now.bytes.now)) at result }
     {
         expect_kind(self.lex(at)?, TokenKind::Atom)
     }
 
     // Behind the layout from `at` on, up to a comment. In core text nothing is passed.
-    fn blank_end(self, at: usize) -> usize
-        ensures { (edition self.entry.format).tokens self.entry.bytes.now result ≡ (edition self.entry.format).tokens self.entry.bytes.now at }
+    fn blank_end(&self, at: usize) -> usize
+        ensures { (edition self.now.format).tokens self.now.bytes.now result ≡ (edition self.now.format).tokens self.now.bytes.now at }
     {
         match self.format {
             Format::Core01 => at,
@@ -367,8 +392,8 @@ impl<'a> Input<'a> {
     }
 
     // The end of an identifier of a source that starts at `start`; else `start`, as in core text.
-    fn name_end(self, start: usize) -> usize
-        ensures { start < result → OfSource self.entry.format × NameAt self.entry.bytes.now start result }
+    fn name_end(&self, start: usize) -> usize
+        ensures { start < result → OfSource self.now.format × NameAt self.now.bytes.now start result }
     {
         match self.format {
             Format::Core01 => start,
@@ -377,8 +402,8 @@ impl<'a> Input<'a> {
     }
 
     // The word that stands at its place, if it is an identifier of a source: told while its end is looked for.
-    fn word_at(self, at: usize) -> Option<Token>
-        ensures { IfSome result (IsWordAt self.entry.format self.entry.bytes.now at) }
+    fn word_at(&self, at: usize) -> Option<Token>
+        ensures { IfSome result (IsWordAt self.now.format self.now.bytes.now at) }
     {
         let end = self.name_end(at);
         if at < end {
@@ -391,9 +416,10 @@ impl<'a> Input<'a> {
         None
     }
 
-    // The same as `lexed_atom`.
-    pub fn next_atom(self, at: usize) -> Result<Token, Refusal>
-        ensures { Reads (atom ((edition self.entry.format).tokens self.entry.bytes.now)) at result }
+    // The same as `lexed_atom`. It is put in the place of its calls, for the speed of both readers of terms.
+    #[inline(always)]
+    pub fn next_atom(&self, at: usize) -> Result<Token, Refusal>
+        ensures { Reads (atom ((edition self.now.format).tokens self.now.bytes.now)) at result }
     {
         match self.word_at(at) {
             Some(t) => Ok(t),
@@ -401,8 +427,8 @@ impl<'a> Input<'a> {
         }
     }
 
-    pub fn expect_atom(self, at: usize, expected: &[u8]) -> Result<Token, Refusal>
-        ensures { Reads (word ((edition self.entry.format).tokens self.entry.bytes.now) self.entry.bytes.now expected.now) at result }
+    pub fn expect_atom(&self, at: usize, expected: &[u8]) -> Result<Token, Refusal>
+        ensures { Reads (word ((edition self.now.format).tokens self.now.bytes.now) self.now.bytes.now expected.now) at result }
     {
         let t = self.next_atom(at)?;
         if words::same_bytes(self.text(t), expected) {
@@ -412,15 +438,15 @@ impl<'a> Input<'a> {
     }
 
     // The parenthesis and the word that a line of the head begins with.
-    pub fn expect_tag(self, at: usize, expected: &[u8]) -> Result<Token, Refusal>
-        ensures { Reads (tag ((edition self.entry.format).tokens self.entry.bytes.now) self.entry.bytes.now expected.now) at result }
+    pub fn expect_tag(&self, at: usize, expected: &[u8]) -> Result<Token, Refusal>
+        ensures { Reads (tag ((edition self.now.format).tokens self.now.bytes.now) self.now.bytes.now expected.now) at result }
     {
         let lparen = self.expect_lparen(at)?;
         self.expect_atom(lparen.end, expected)
     }
 
-    pub fn parse_natural(self, at: usize) -> Result<Token, Refusal>
-        ensures { Reads (natural ((edition self.entry.format).tokens self.entry.bytes.now) self.entry.bytes.now) at result }
+    pub fn parse_natural(&self, at: usize) -> Result<Token, Refusal>
+        ensures { Reads (natural ((edition self.now.format).tokens self.now.bytes.now) self.now.bytes.now) at result }
     {
         let t = self.lexed_atom(at)?;
         if words::is_numeral(self.text(t)) {
@@ -430,8 +456,8 @@ impl<'a> Input<'a> {
     }
 
     // An atom that is tested for a name behind its end.
-    fn tested_identifier(self, at: usize) -> Result<Token, Refusal>
-        ensures { Reads (name (edition self.entry.format) self.entry.bytes.now) at result }
+    fn tested_identifier(&self, at: usize) -> Result<Token, Refusal>
+        ensures { Reads (name (edition self.now.format) self.now.bytes.now) at result }
     {
         let t = self.lexed_atom(at)?;
         match self.format.name_test(self.text(t)) {
@@ -442,8 +468,8 @@ impl<'a> Input<'a> {
     }
 
     // Most identifiers are told while their end is looked for.
-    pub fn parse_identifier(self, at: usize) -> Result<Token, Refusal>
-        ensures { Reads (name (edition self.entry.format) self.entry.bytes.now) at result }
+    pub fn parse_identifier(&self, at: usize) -> Result<Token, Refusal>
+        ensures { Reads (name (edition self.now.format) self.now.bytes.now) at result }
     {
         let start = self.blank_end(at);
         match self.word_at(start) {
@@ -453,8 +479,8 @@ impl<'a> Input<'a> {
     }
 
     // The name of a declaration of a core text: a string, of which the bytes between the quotes are kept.
-    fn string_name(self, at: usize) -> Result<(Token, usize), Refusal>
-        ensures { ReadsName (declared_name Format.Core01 self.entry.bytes.now) at result }
+    fn string_name(&self, at: usize) -> Result<(Token, usize), Refusal>
+        ensures { ReadsName (declared_name Format.Core01 self.now.bytes.now) at result }
     {
         let t = core_token::next_core_token(self.bytes, at)?;
         if t.kind != TokenKind::String {
@@ -469,8 +495,8 @@ impl<'a> Input<'a> {
     }
 
     // The name of a declaration, and where reading goes on behind it.
-    pub fn parse_name(self, at: usize) -> Result<(Token, usize), Refusal>
-        ensures { Names self.entry.format self.entry.bytes.now at result }
+    pub fn parse_name(&self, at: usize) -> Result<(Token, usize), Refusal>
+        ensures { Names self.now.format self.now.bytes.now at result }
     {
         match self.format {
             Format::Core01 => self.string_name(at),
@@ -481,35 +507,33 @@ impl<'a> Input<'a> {
         }
     }
 
-    // The term of a word t that stands without a parenthesis. Such words are the same in all formats.
-    pub fn begin_bare(self, t: Token) -> Result<TermStart, Refusal>
-        requires { TokenInside (length self.bytes.now) t }
-        ensures { (f : Format) → BeginsOn (edition f) self.entry.bytes.now t TokenKind.Atom result }
+    pub fn begin_bare(&self, t: Token) -> Result<TermStart, Refusal>
+        requires { TokenInside (length self.now.bytes.now) t }
+        ensures { (f : Format) → BeginsOn (edition f) self.now.bytes.now t TokenKind.Atom result }
     {
-        let unknown = Refusal::at(Class::Malformed, t.start);
-        let Some(FormOfWord { kind, shape }) = surface_form(self.text(t)) else {
-            return Err(unknown);
-        };
-        match shape {
-            Shape::Alone => Ok(TermStart::Leaf(label_alone(kind, t.start), t.end)),
-            _ => Err(unknown),
-        }
+        begin_bare(self.bytes, t)
     }
 
-    // The term of a kind with the atom t, to its closing parenthesis.
-    pub fn close_leaf(self, kind: u32, offset: usize, t: Token) -> Result<TermStart, Refusal>
-        requires { TokenInside (length self.bytes.now) t }
-        ensures { ClosesLeaf (edition self.entry.format) self.entry.bytes.now kind offset (Ok t) result }
+    // The term of a kind with the atom that was read, to its closing parenthesis.
+    pub fn close_leaf(
+        &self,
+        kind: u32,
+        offset: usize,
+        atom: Result<Token, Refusal>,
+    ) -> Result<TermStart, Refusal>
+        requires { LexedInside (length self.now.bytes.now) atom }
+        ensures { ClosesLeaf (edition self.now.format) self.now.bytes.now kind offset atom result }
     {
+        let t = atom?;
         let close = self.expect_rparen(t.end)?;
         Ok(TermStart::Leaf(label_with(kind, t, offset), close.end))
     }
 
     // The beginning of a term behind its parenthesis and its word. Both readers of terms begin with it, and each has it in the place of its call.
     #[inline(always)]
-    fn begin_tagged(self, lparen: Token, word: Token) -> Result<TermStart, Refusal>
-        requires { TokenInside (length self.bytes.now) word }
-        ensures { BeginsWith (edition self.entry.format) self.entry.bytes.now lparen word result }
+    fn begin_tagged(&self, lparen: Token, word: Token) -> Result<TermStart, Refusal>
+        requires { TokenInside (length self.now.bytes.now) word }
+        ensures { BeginsWith (edition self.now.format) self.now.bytes.now lparen word result }
     {
         let offset = lparen.start;
         let unknown = Refusal::at(Class::Malformed, word.start);
@@ -518,8 +542,8 @@ impl<'a> Input<'a> {
         };
         match shape {
             Shape::Alone => Err(unknown),
-            Shape::WithName => self.close_leaf(kind, offset, self.parse_identifier(word.end)?),
-            Shape::WithNumeral => self.close_leaf(kind, offset, self.parse_natural(word.end)?),
+            Shape::WithName => self.close_leaf(kind, offset, self.parse_identifier(word.end)),
+            Shape::WithNumeral => self.close_leaf(kind, offset, self.parse_natural(word.end)),
             // A binder is read and tested before the frame is opened.
             Shape::Binding => {
                 let binder = self.parse_identifier(word.end)?;
@@ -531,16 +555,16 @@ impl<'a> Input<'a> {
 
     // The beginning of a term behind its parenthesis.
     #[inline(always)]
-    pub fn begin_form(self, lparen: Token) -> Result<TermStart, Refusal>
-        ensures { BeginsOn (edition self.entry.format) self.entry.bytes.now lparen TokenKind.LParen result }
+    pub fn begin_form(&self, lparen: Token) -> Result<TermStart, Refusal>
+        ensures { BeginsOn (edition self.now.format) self.now.bytes.now lparen TokenKind.LParen result }
     {
         let t = self.next_atom(lparen.end)?;
         self.begin_tagged(lparen, t)
     }
 
     // The token that a term begins with: a parenthesis at its place, or a word that is told while its end is looked for, or any other.
-    fn term_token(self, at: usize) -> Result<Token, Refusal>
-        ensures { result ≡ (edition self.entry.format).tokens self.entry.bytes.now at }
+    fn term_token(&self, at: usize) -> Result<Token, Refusal>
+        ensures { result ≡ (edition self.now.format).tokens self.now.bytes.now at }
     {
         if let Some(t) = self.paren_at(at, b'(', TokenKind::LParen) {
             return Ok(t);
@@ -552,8 +576,8 @@ impl<'a> Input<'a> {
     }
 
     // What a term begins with: all of a term without arguments, or a form with its name.
-    pub fn begin_term(self, at: usize) -> Result<TermStart, Refusal>
-        ensures { Begins (edition self.entry.format) self.entry.bytes.now at result }
+    pub fn begin_term(&self, at: usize) -> Result<TermStart, Refusal>
+        ensures { Begins (edition self.now.format) self.now.bytes.now at result }
     {
         let start = self.blank_end(self.behind_space(at));
         let t = self.term_token(start)?;
@@ -564,22 +588,21 @@ impl<'a> Input<'a> {
         }
     }
 
-    // Whether a version is 0 and the numeral w, by its bytes.
-    pub fn is_version(self, major: Token, minor: Token, w: &[u8]) -> bool
-        requires major { TokenInside (length self.bytes.now) major }
-        requires minor { TokenInside (length self.bytes.now) minor }
-        ensures { result ≡ is_version self.entry.bytes.now major minor w.now }
+    pub fn is_version(&self, major: Token, minor: Token, w: &[u8]) -> bool
+        requires major { TokenInside (length self.now.bytes.now) major }
+        requires minor { TokenInside (length self.now.bytes.now) minor }
+        ensures { result ≡ is_version self.now.bytes.now major minor w.now }
     {
-        words::same_bytes(self.text(major), b"0") && words::same_bytes(self.text(minor), w)
+        is_version(self.bytes, major, minor, w)
     }
 }
 
 // The rest of the surface line behind its numerals: the closing parenthesis, and only then the version. What is known then is the format of
 // the source, and where reading goes on.
-fn close_version(input: Input, major: Token, minor: Token) -> Result<(Format, usize), Refusal>
-    requires major { TokenInside (length input.bytes.now) major }
-    requires minor { TokenInside (length input.bytes.now) minor }
-    ensures { OfSource input.entry.format → ClosesVersion input.entry.bytes.now major minor result }
+fn close_version(input: &Input, major: Token, minor: Token) -> Result<(Format, usize), Refusal>
+    requires major { TokenInside (length input.now.bytes.now) major }
+    requires minor { TokenInside (length input.now.bytes.now) minor }
+    ensures { OfSource input.now.format → ClosesVersion input.now.bytes.now major minor result }
 {
     let close = input.expect_rparen(minor.end)?;
     if input.is_version(major, minor, b"1") {
@@ -592,8 +615,8 @@ fn close_version(input: Input, major: Token, minor: Token) -> Result<(Format, us
 }
 
 // `(surface 0 1)` or `(surface 0 2)`
-fn surface_line(input: Input) -> Result<(Format, usize), Refusal>
-    ensures { OfSource input.entry.format → SurfaceLine input.entry.bytes.now result }
+fn surface_line(input: &Input) -> Result<(Format, usize), Refusal>
+    ensures { OfSource input.now.format → SurfaceLine input.now.bytes.now result }
 {
     let w = input.expect_tag(0, b"surface")?;
     let major = input.parse_natural(w.end)?;
@@ -602,8 +625,8 @@ fn surface_line(input: Input) -> Result<(Format, usize), Refusal>
 }
 
 // `(module NAME)`
-fn module_line(input: Input, at: usize) -> Result<ModuleHead, Refusal>
-    ensures { OfSource input.entry.format → ModuleLine input.entry.bytes.now input.entry.format at result }
+fn module_line(input: &Input, at: usize) -> Result<ModuleHead, Refusal>
+    ensures { OfSource input.now.format → ModuleLine input.now.bytes.now input.now.format at result }
 {
     let w = input.expect_tag(at, b"module")?;
     let name = input.parse_identifier(w.end)?;
@@ -623,6 +646,6 @@ pub fn read_head(bytes: &[u8], classes: &Classes) -> Result<ModuleHead, Refusal>
         classes,
         format: Format::Surface01,
     };
-    let (format, next) = surface_line(input)?;
-    module_line(Input { format, ..input }, next)
+    let (format, next) = surface_line(&input)?;
+    module_line(&Input { format, ..input }, next)
 }

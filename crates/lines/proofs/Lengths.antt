@@ -18,7 +18,7 @@ use Rattle.terms.specs.Forms.{Form, forms, form_of_kind, arity_of, var_kind, glo
 use Rattle.terms.specs.Label.{part}
 use Rattle.terms.proofs.FormTable.{every, of_kind, arity_small}
 use Rattle.text.specs.Text.{digits, decimal}
-use Rattle.lines.specs.Listing.{spaced, kind_word, numbers, row_fields, row_line, row_lines, declaration_word, declaration_rows, declaration_line, declaration_lines, first_line, listing, place_text, refusal_line}
+use Rattle.lines.specs.Listing.{spaced, kind_word, numbers, row_fields, row_line, row_lines, declaration_word, declaration_rows, declaration_line, declaration_lines, first_line, listing, place_text, refused_line, refusal_line}
 
 digits_short : (p n : ℕ) → length (digits p n) ≤ p
 unfolding digits
@@ -178,15 +178,18 @@ unfolding place_text
 place_short (Some p) = omega (arith, length-append (ascii " at ") (decimal p), decimal_short p)
 place_short None = omega arith
 
-pub refusal_short : (r : Refusal) → length (refusal_line r) ≤ 53
-unfolding refusal_line
-refusal_short r =
+pub refused_short : (c : ℕ) (p : Place) → length (refused_line c p) ≤ 53
+unfolding refused_line
+refused_short c p =
     let refused = ascii "refused " in
     omega (
       arith,
-      length-append (refused ++ decimal (number r.class) ++ place_text r.place) (10 ∷ []),
-      length-append (refused ++ decimal (number r.class)) (place_text r.place),
-      length-append refused (decimal (number r.class)),
-      decimal_short (number r.class),
-      place_short r.place,
+      length-append (refused ++ decimal c ++ place_text p) (10 ∷ []),
+      length-append (refused ++ decimal c) (place_text p),
+      length-append refused (decimal c),
+      decimal_short c,
+      place_short p,
     )
+
+pub refusal_short : (r : Refusal) → length (refusal_line r) ≤ 53
+refusal_short r = refused_short (number r.class) r.place

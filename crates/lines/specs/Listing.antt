@@ -79,6 +79,9 @@ unfoldable pub place_text : Place → List ℕ
 place_text (Some p) = ascii " at " ++ decimal p
 place_text None = []
 
--- "A refusal prints only `refused C` or `refused C at P`: class, offset."
-unfoldable pub refusal_line : Refusal → List ℕ
-refusal_line r = line (ascii "refused " ++ decimal (number r.class) ++ place_text r.place)
+-- "A refusal prints only `refused C` or `refused C at P`: class, offset." By the class's number.
+unfoldable pub refused_line : ℕ → Place → List ℕ
+refused_line c p = line (ascii "refused " ++ decimal c ++ place_text p)
+
+abbrev pub refusal_line : Refusal → List ℕ
+refusal_line r = refused_line (number r.class) r.place

@@ -6,7 +6,7 @@ ghost use Rattle.std.specs.Prelude.{◌≡◌, ◌+◌, ◌*◌, length, get_or,
 ghost use Rattle.std.proofs.lemmas.List.Edits.{sets};
 ghost use Rattle.terms.specs.Label.{part};
 ghost use Rattle.text.specs.Text.{length_in, with_text, decimal};
-ghost use Rattle.lines.specs.Listing.{spaced, kind_word, numbers, row_fields, row_line, row_lines, declaration_word, declaration_rows, declaration_line, declaration_lines, first_line, listing, place_text, refusal_line};
+ghost use Rattle.lines.specs.Listing.{spaced, kind_word, numbers, row_fields, row_line, row_lines, declaration_word, declaration_rows, declaration_line, declaration_lines, first_line, listing, place_text, refused_line, refusal_line};
 
 use kind_words::{WORDS, kind_at};
 use rows::atom;
@@ -202,22 +202,29 @@ fn put_place(place: Option<usize>, out: &mut [u8], at: usize) -> usize
     }
 }
 
-// The line of a refusal.
-fn put_refusal_at(refusal: Refusal, out: &mut [u8], at: usize) -> usize
-    ensures out_after { out.new ≡ sets out.old at (refusal_line refusal) }
-    ensures value { result ≡ length_in out.old (at + length (refusal_line refusal)) }
+// The line of a refusal by its class's number.
+fn put_refused_at(class: u8, place: Option<usize>, out: &mut [u8], at: usize) -> usize
+    ensures out_after { out.new ≡ sets out.old at (refused_line class place) }
+    ensures value { result ≡ length_in out.old (at + length (refused_line class place)) }
 {
-    let place = refusal.place;
     let mut pos = put(out, at, b"refused ");
-    pos = put_decimal(out, pos, refusal.class.number() as u64);
+    pos = put_decimal(out, pos, class as u64);
     pos = put_place(place, out, pos);
     put_byte(out, pos, 10)
 }
 
-// The same from the buffer's beginning on.
+// The same from the buffer's beginning on. The number may be any.
+pub fn put_refused(class: u8, place: Option<usize>, out: &mut [u8]) -> usize
+    ensures out_after { out.new ≡ with_text out.old (refused_line class place) }
+    ensures value { result ≡ length_in out.old (length (refused_line class place)) }
+{
+    put_refused_at(class, place, out, 0)
+}
+
+// The line of a refusal.
 pub fn put_refusal(refusal: Refusal, out: &mut [u8]) -> usize
     ensures out_after { out.new ≡ with_text out.old (refusal_line refusal) }
     ensures value { result ≡ length_in out.old (length (refusal_line refusal)) }
 {
-    put_refusal_at(refusal, out, 0)
+    put_refused(refusal.class.number(), refusal.place, out)
 }

@@ -53,15 +53,15 @@ fn push_term(
 
 // A term is to be read: all of it, or a new frame.
 fn term_step(
-    input: Input,
+    input: &Input,
     table: &mut [u32],
     work: &mut [u32],
     st: State,
     limit: usize,
 ) -> Result<State, Refusal>
-    requires term_inside { TermInside 512 input.bytes.now work.old st }
+    requires term_inside { TermInside 512 input.now.bytes.now work.old st }
     requires no_value { st.value ≡ None }
-    ensures { Steps input.entry.bytes.now (setting (edition input.entry.format) input.entry.bytes.now limit) table.old work.old st result table.new work.new }
+    ensures { Steps input.now.bytes.now (setting (edition input.now.format) input.now.bytes.now limit) table.old work.old st result table.new work.new }
 {
     match input.begin_term(st.at)? {
         TermStart::Leaf(label, next) => {
@@ -87,17 +87,17 @@ fn term_step(
 
 // A term is complete and a frame is open, which takes its row. With its last argument the form is complete.
 fn value_step(
-    input: Input,
+    input: &Input,
     table: &mut [u32],
     work: &mut [u32],
     st: State,
     value: u32,
     limit: usize,
 ) -> Result<State, Refusal>
-    requires term_inside { TermInside 512 input.bytes.now work.old st }
+    requires term_inside { TermInside 512 input.now.bytes.now work.old st }
     requires complete { st.value ≡ Some value }
     requires depth_nonzero { 0 < st.depth }
-    ensures { Steps input.entry.bytes.now (setting (edition input.entry.format) input.entry.bytes.now limit) table.old work.old st result table.new work.new }
+    ensures { Steps input.now.bytes.now (setting (edition input.now.format) input.now.bytes.now limit) table.old work.old st result table.new work.new }
 {
     let depth = st.depth - 1;
     frames::push_arg(work, depth, value);
@@ -122,15 +122,15 @@ fn is_ready(source: usize, area: usize, at: usize, rows: usize) -> bool
 // The port of `parse_term`: a whole type or body of a format from `at` on, behind the rows that are stored, where there is room for
 // `limit` rows. A table that has no place for them leaves them out, and they are counted all the same.
 pub fn read_term(
-    input: Input,
+    input: &Input,
     table: &mut [u32],
     work: &mut [u32],
     at: usize,
     rows: usize,
     limit: usize,
 ) -> Result<ReadTerm, Refusal>
-    ensures term { ReadsTerm (edition input.entry.format) limit input.entry.bytes.now table.old work.old at rows result table.new }
-    ensures by_lengths { 5632 ≤ length work.old → ReadsByLengths (edition input.entry.format) limit input.entry.bytes.now table.old at rows result table.new }
+    ensures term { ReadsTerm (edition input.now.format) limit input.now.bytes.now table.old work.old at rows result table.new }
+    ensures by_lengths { 5632 ≤ length work.old → ReadsByLengths (edition input.now.format) limit input.now.bytes.now table.old at rows result table.new }
 {
     if !is_ready(input.bytes.len(), work.len(), at, rows) {
         return Err(Refusal::nowhere(Class::WorkShort));

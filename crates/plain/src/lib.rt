@@ -41,22 +41,21 @@ const FRAMES: usize = 512;
 
 // TYPE or BODY: a whole term from `at` on, behind the rows that are stored, where there is room for `limit` rows.
 pub fn read_whole(
-    input: Input,
+    input: &Input,
     table: &mut [u32],
     at: usize,
     rows: usize,
     limit: usize,
 ) -> Result<ReadTerm, Refusal>
-    ensures { ReadsTerm (edition input.entry.format) limit input.entry.bytes.now table.old at rows result table.new }
+    ensures { ReadsTerm (edition input.now.format) limit input.now.bytes.now table.old at rows result table.new }
 {
     if term_rows::is_within(input.bytes.len(), at, rows) {
-        return read_term(&input, table, at, rows, FRAMES, limit);
+        return read_term(input, table, at, rows, FRAMES, limit);
     }
     Err(Refusal::nowhere(Class::WorkShort))
 }
 
-// A term, where `left` frames may still be opened: a whole one, or a form with its arguments. The input goes from call to call by
-// reference: a copy for each call is slower.
+// A term, where `left` frames may still be opened: a whole one, or a form with its arguments.
 #[cycle(read_arguments_read_term)]
 fn read_term(
     input: &Input,
@@ -85,9 +84,7 @@ fn read_term(
     }
 }
 
-// What a term begins with: a word that is a term by itself, or a parenthesis and a form. Not put in the place of its call: what it keeps
-// on the stack is gone before the arguments are read.
-#[inline(never)]
+// What a term begins with: a word that is a term by itself, or a parenthesis and a form.
 fn begin_term(input: &Input, at: usize) -> Result<TermStart, Refusal>
     ensures { Begins (edition input.now.format) input.now.bytes.now at result }
 {

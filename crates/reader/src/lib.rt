@@ -20,22 +20,23 @@ use token::{Class, Classes, Refusal, Token, TokenKind};
 pub trait Method {
     // A whole type or body, behind the rows that are stored, where there is room for `limit` rows.
     fn read_term(
-        input: Input,
+        input: &Input,
         table: &mut [u32],
         work: &mut [u32],
         at: usize,
         rows: usize,
         limit: usize,
     ) -> Result<ReadTerm, Refusal>
-        ensures { 5632 ≤ length work.old → ReadsTerm (edition input.entry.format) limit input.entry.bytes.now table.old at rows result table.new };
+        ensures { 5632 ≤ length work.old → ReadsTerm (edition input.now.format) limit input.now.bytes.now table.old at rows result table.new };
 }
 
 // The quick reader, by frames in the work area.
+#[derive(Clone, Copy, Debug, PartialEq, Eq)]
 pub struct Frames;
 
 impl Method for Frames {
     fn read_term(
-        input: Input,
+        input: &Input,
         table: &mut [u32],
         work: &mut [u32],
         at: usize,
@@ -47,11 +48,12 @@ impl Method for Frames {
 }
 
 // The plain reader, by calls. It asks for no work area.
+#[derive(Clone, Copy, Debug, PartialEq, Eq)]
 pub struct Plain;
 
 impl Method for Plain {
     fn read_term(
-        input: Input,
+        input: &Input,
         table: &mut [u32],
         _work: &mut [u32],
         at: usize,
@@ -114,7 +116,7 @@ fn declaration_record(kind: u32, name: Token, type_row: u32, body_row: u32) -> [
 
 // The body of a declaration: a postulate, of kind 1, has none.
 fn read_body<M: Method>(
-    input: Input,
+    input: &Input,
     table: &mut [u32],
     work: &mut [u32],
     kind: u32,
@@ -122,7 +124,7 @@ fn read_body<M: Method>(
     rows: usize,
     limits: Limits,
 ) -> Result<ReadTerm, Refusal>
-    ensures { ReadsBody input.entry.format limits input.entry.bytes.now table.old work.old kind at rows result table.new }
+    ensures { ReadsBody input.now.format limits input.now.bytes.now table.old work.old kind at rows result table.new }
 {
     if kind == 1 {
         return Ok(ReadTerm {
@@ -137,7 +139,7 @@ fn read_body<M: Method>(
 
 // The closing parenthesis of a declaration, and only then its record.
 fn finish_declaration(
-    input: Input,
+    input: &Input,
     list: &mut [u32],
     at: usize,
     rows: usize,
@@ -145,7 +147,7 @@ fn finish_declaration(
     record: [u32; 5],
     frames: usize,
 ) -> Result<ReadDeclaration, Refusal>
-    ensures { Finishes (closing ((edition input.entry.format).tokens input.entry.bytes.now) (position_at at rows)) k frames list.old «record» result list.new }
+    ensures { Finishes (closing ((edition input.now.format).tokens input.now.bytes.now) (position_at at rows)) k frames list.old «record» result list.new }
 {
     let close = input.expect_rparen(at)?;
     rows::store_record(list, k, record);
@@ -158,7 +160,7 @@ fn finish_declaration(
 
 // A declaration of some kind behind its word: its name, its type, its body if the kind has one, and its end.
 fn read_named<M: Method>(
-    input: Input,
+    input: &Input,
     table: &mut [u32],
     list: &mut [u32],
     work: &mut [u32],
@@ -168,19 +170,31 @@ fn read_named<M: Method>(
     k: usize,
     limits: Limits,
 ) -> Result<ReadDeclaration, Refusal>
-    ensures { ReadsNamed input.entry.format limits input.entry.bytes.now table.old list.old work.old kind at rows k result table.new list.new }
+    ensures { ReadsNamed input.now.format limits input.now.bytes.now table.old list.old work.old kind at rows k result table.new list.new }
 {
     let (name, behind) = input.parse_name(at)?;
     let ty = M::read_term(input, table, work, behind, rows, limits.rows)?;
-    let body = read_body::<M>(input, table, work, kind, ty.next, ty.rows, limits)?;
-    let record = declaration_record(kind, name, ty.row, body.row);
-    let frames = ty.frames.max(body.frames);
-    finish_declaration(input, list, body.next, body.rows, k, record, frames)
+    // Taken apart here: `?` would have all of it copied first, in other pieces than it was stored in, which is waited for.
+    match read_body::<M>(input, table, work, kind, ty.next, ty.rows, limits) {
+        Err(refusal) => Err(refusal),
+        Ok(
+            ReadTerm {
+                row,
+                rows,
+                next,
+                frames,
+            },
+        ) => {
+            let record = declaration_record(kind, name, ty.row, row);
+            let most = ty.frames.max(frames);
+            finish_declaration(input, list, next, rows, k, record, most)
+        }
+    }
 }
 
 // The declaration behind an opening parenthesis: its rows are stored behind the others, and its record at place k.
 fn read_declaration<M: Method>(
-    input: Input,
+    input: &Input,
     table: &mut [u32],
     list: &mut [u32],
     work: &mut [u32],
@@ -189,7 +203,7 @@ fn read_declaration<M: Method>(
     k: usize,
     limits: Limits,
 ) -> Result<ReadDeclaration, Refusal>
-    ensures { ReadsDeclaration input.entry.format limits input.entry.bytes.now table.old list.old work.old at rows k result table.new list.new }
+    ensures { ReadsDeclaration input.now.format limits input.now.bytes.now table.old list.old work.old at rows k result table.new list.new }
 {
     let tag = input.next_atom(at)?;
     let kind = expects::declaration_kind(&input.bytes[tag.start..tag.end]);
@@ -201,7 +215,7 @@ fn read_declaration<M: Method>(
 
 // What stands next: the end, or a declaration. A full list is refused before the declaration's word is read.
 fn next_declaration<M: Method>(
-    input: Input,
+    input: &Input,
     table: &mut [u32],
     list: &mut [u32],
     work: &mut [u32],
@@ -210,7 +224,7 @@ fn next_declaration<M: Method>(
     k: usize,
     limits: Limits,
 ) -> Result<ModuleStep, Refusal>
-    ensures steps { Steps input.entry.format limits input.entry.bytes.now table.old list.old work.old at rows k result table.new list.new work.new }
+    ensures steps { Steps input.now.format limits input.now.bytes.now table.old list.old work.old at rows k result table.new list.new work.new }
     ensures has_room { HasRoom limits k result }
 {
     let t = input.next_token(at)?;
@@ -230,14 +244,14 @@ fn next_declaration<M: Method>(
 
 // Declarations of a format from an offset to their end, into empty tables.
 pub fn read_declarations<M: Method>(
-    input: Input,
+    input: &Input,
     table: &mut [u32],
     list: &mut [u32],
     work: &mut [u32],
     from: usize,
     limits: Limits,
 ) -> Result<AllDeclarations, Refusal>
-    ensures { ReadsDeclarations input.entry.format limits input.entry.bytes.now table.old list.old work.old from result table.new list.new }
+    ensures { ReadsDeclarations input.now.format limits input.now.bytes.now table.old list.old work.old from result table.new list.new }
 {
     let mut at = from;
     let mut rows = 0;
@@ -281,7 +295,7 @@ pub fn measure_within<M: Method>(
         classes: &classes,
         format,
     };
-    let all = read_declarations::<M>(input, table, list, work, next, limits)?;
+    let all = read_declarations::<M>(&input, table, list, work, next, limits)?;
     Ok(ModuleSize {
         rows: all.rows,
         declarations: all.declarations,

@@ -3,7 +3,6 @@
 
 ghost use Rattle.std.specs.Prelude.{◌≡◌, [], ◌∷◌, ◌++◌};
 ghost use Rattle.dependence.specs.Asks.{report_dependence};
-ghost use Rattle.token.specs.Refusals.{number};
 ghost use Rattle.surface.specs.Reports.{offsets, report_refusal, report, token_number, report_token};
 ghost use Rattle.loader.specs.Parsed.{report_read};
 ghost use Rattle.binding.specs.Binds.{report_binding};
@@ -31,11 +30,10 @@ pub struct Numbers {
     pub third: u64,
 }
 
-fn report_refusal(refusal: Refusal) -> Numbers
-    ensures { result ≡ numbers (report_refusal refusal) }
+// A refusal by its class's number, which may be any.
+pub fn report_refused(number: u8, place: Option<usize>) -> Numbers
+    ensures { result ≡ numbers (record { number = number; values = offsets place }) }
 {
-    let number = refusal.class.number();
-    let place = refusal.place;
     match place {
         Some(at) => Numbers {
             number,
@@ -52,6 +50,12 @@ fn report_refusal(refusal: Refusal) -> Numbers
             third: 0,
         },
     }
+}
+
+fn report_refusal(refusal: Refusal) -> Numbers
+    ensures { result ≡ numbers (report_refusal refusal) }
+{
+    report_refused(refusal.class.number(), refusal.place)
 }
 
 fn report_none() -> Numbers
@@ -166,12 +170,10 @@ pub fn report_storage(answer: Result<Needs, Refusal>) -> Numbers
     }
 }
 
-// Which of two sources is refused, and the refusal's offset if it has one.
-fn report_which(which: u64, refusal: Refusal) -> Numbers
-    ensures { result ≡ numbers (record { number = number refusal.class; values = which ∷ offsets refusal.place }) }
+// Which of two sources is refused, and the refusal's offset if it has one; by its class's number.
+pub fn report_which(which: u64, number: u8, place: Option<usize>) -> Numbers
+    ensures { result ≡ numbers (record { number = number; values = which ∷ offsets place }) }
 {
-    let number = refusal.class.number();
-    let place = refusal.place;
     match place {
         Some(at) => Numbers {
             number,
@@ -197,16 +199,15 @@ pub fn report_comparison(answer: Result<Option<usize>, Unloaded>) -> Numbers
     match answer {
         Ok(None) => report_none(),
         Ok(Some(declaration)) => report_one(declaration),
-        Err(Unloaded::First(refusal)) => report_which(1, refusal),
-        Err(Unloaded::Second(refusal)) => report_which(2, refusal),
+        Err(Unloaded::First(refusal)) => report_which(1, refusal.class.number(), refusal.place),
+        Err(Unloaded::Second(refusal)) => report_which(2, refusal.class.number(), refusal.place),
     }
 }
 
-fn report_refused_text(refusal: Refusal, length: u64) -> Numbers
-    ensures { result ≡ numbers (record { number = number refusal.class; values = offsets refusal.place ++ (length ∷ []) }) }
+// A refusal by its class's number, and the length of its line.
+pub fn report_refused_text(number: u8, place: Option<usize>, length: u64) -> Numbers
+    ensures { result ≡ numbers (record { number = number; values = offsets place ++ (length ∷ []) }) }
 {
-    let number = refusal.class.number();
-    let place = refusal.place;
     match place {
         Some(offset) => Numbers {
             number,
@@ -239,7 +240,7 @@ pub fn report_listed(listed: Listed) -> Numbers
             second: declarations as u64,
             third: length,
         },
-        Err(refusal) => report_refused_text(refusal, length),
+        Err(refusal) => report_refused_text(refusal.class.number(), refusal.place, length),
     }
 }
 

@@ -22,7 +22,11 @@ pub fn put(out: &mut [u8], at: usize, bytes: &[u8]) -> usize
     ensures out_after { out.new ≡ sets out.old at bytes.now }
     ensures value { result ≡ length_in out.old (at + length bytes.now) }
 {
-    let mut behind = at.min(out.len() + 1);
+    // Behind the end nothing is written, however many bytes there are.
+    if out.len() < at {
+        return out.len() + 1;
+    }
+    let mut behind = at;
     for byte in bytes {
         behind = put_byte(out, behind, *byte);
     }

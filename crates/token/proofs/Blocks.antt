@@ -1,11 +1,13 @@
 -- Bytes that all pass a test, block by block.
 use Prim.Native.Nat.{ℕ, zero, suc, ◌+◌, ◌-◌, ◌≤◌, ◌<◌}
 use mathlib.Core.Path.{◌≡◌, sym, ◌∙◌, ap}
-use mathlib.Core.Bool.{Bool, true, ◌&&◌, and-true, and_assoc, and-eq-true_iff}
+use mathlib.Core.Bool.{Bool, true, false, ◌&&◌, and-true, and-false, and_assoc, and-eq-true_iff}
 use mathlib.Core.List.{List, [], ◌∷◌, ◌++◌}
 use native.Mathlib.Omega.{arith}
 use native.Mathlib.Decide.{dec_le}
-use lib.ListN.{length, get_or, drop}
+use native.Mathlib.Numerals.{add-one}
+use lib.ListN.{length, get_or, take, drop, length-drop}
+use lib.Seq.{take-suc, get_or-drop}
 use Rattle.std.specs.List.{fold}
 use Rattle.token.specs.Blocks.{every, Passed}
 use Rattle.token.proofs.Chunks.{chunk_fits, chunk_byte}
@@ -16,6 +18,24 @@ module _ (p : ℕ → Bool) where
   unfolding every
   fold_every t [] = sym (and-true t)
   fold_every t (b ∷ l) = fold_every (t && p b) l ∙ and_assoc t (p b) (every p l)
+
+  every_snoc : (l : List ℕ) (b : ℕ) → every p (l ++ (b ∷ [])) ≡ (every p l && p b)
+  unfolding every
+  every_snoc [] b = and-true (p b)
+  every_snoc (x ∷ l) b = ap (λ t. p x && t) (every_snoc l b) ∙ sym (and_assoc (p x) (every p l) (p b))
+
+  -- One more byte of a block.
+  module _ (s : List ℕ) (at i : ℕ) {t : Bool} (h : at + i < length s) (e : every p (take i (drop at s)) ≡ t) where
+    block_more : every p (take (i + 1) (drop at s)) ≡ (t && p (get_or s (at + i) 0))
+    block_more =
+        let k : i < length (drop at s) = omega (arith, length-drop at s) in
+        rw (add-one, take-suc (drop at s) i 0 k, every_snoc, get_or-drop, e)
+
+    pub block_no : p (get_or s (at + i) 0) ≡ false → every p (take (i + 1) (drop at s)) ≡ false
+    block_no b = block_more ∙ rw b (and-false t)
+
+    pub block_yes : p (get_or s (at + i) 0) ≡ true → every p (take (i + 1) (drop at s)) ≡ t
+    block_yes b = block_more ∙ rw b (and-true t)
 
   every_at : (l : List ℕ) → every p l ≡ true → (j : ℕ) → j < length l → p (get_or l j 0) ≡ true
   unfolding every

@@ -1,7 +1,14 @@
 // The table of byte classes: "a table of 256 class numbers, one for each byte value" (document 02, Req 06).
 
-ghost use Rattle.std.specs.Prelude.{◌≡◌};
+ghost use Rattle.std.specs.Prelude.{◌≡◌, IsSome};
 ghost use Rattle.token.specs.Classes.{class_number, ClassTable};
+
+// The table by itself.
+pub fn class_table() -> [u8; 256]
+    ensures { ClassTable result }
+{
+    NUMBERS
+}
 
 // The table, made where reading begins and handed down: where it is read as a constant, it is copied at each use.
 #[derive(Clone, Copy)]
@@ -13,6 +20,23 @@ pub struct Classes {
 impl Classes {
     pub fn new() -> Classes {
         Classes { numbers: NUMBERS }
+    }
+
+    // The same of a table that a caller has, if it is right.
+    pub fn of_table(table: &[u8]) -> Option<Classes>
+        ensures right { ClassTable table.now → IsSome result }
+        ensures wrong { IsSome result → ClassTable table.now }
+    {
+        let classes = Classes::new();
+        if table.len() != 256 {
+            return None;
+        }
+        for b in 0..256usize {
+            if table[b] != classes.of(b as u8) {
+                return None;
+            }
+        }
+        Some(classes)
     }
 
     // The number of a byte's class.

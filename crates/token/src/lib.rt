@@ -11,7 +11,7 @@ ghost use Rattle.token.specs.Classes.{SameLayout, LayoutOver, Run, atom_stops, N
 ghost use Rattle.token.specs.Comments.{comment_end};
 ghost use Rattle.token.specs.Blocks.{every, Passed};
 
-pub use byte_classes::Classes;
+pub use byte_classes::{Classes, class_table};
 
 // What a byte is for.
 #[derive(Clone, Copy, Debug, PartialEq, Eq)]

@@ -4,8 +4,10 @@ use mathlib.Core.Path.{◌≡◌, refl, sym, ◌∙◌, ap}
 use mathlib.Core.Bool.{Bool, true, false, ◌&&◌, and-true, and_assoc, and-eq-true_iff}
 use mathlib.Core.List.{List, [], ◌∷◌, ◌++◌}
 use native.Mathlib.Omega.{arith}
+use native.Mathlib.Numerals.{add-one}
 use lib.Dec.{ltb}
-use lib.ListN.{length, get_or, drop, drop_of_length-le}
+use lib.ListN.{length, get_or, take, drop, drop_of_length-le, length-drop}
+use lib.Seq.{take-suc, get_or-drop}
 use borrow.Author.Tests.{lt-ltb, le-ltb}
 use Rattle.std.specs.List.{fold}
 use Rattle.std.proofs.lemmas.Bool.Decides.{nat_tests}
@@ -22,6 +24,18 @@ pub greatest : (g : ℕ) (l : List ℕ) → ltb (fold max g l) 0x80 ≡ (ltb g 0
 unfolding ascii
 greatest g [] = sym (and-true (ltb g 0x80))
 greatest g (b ∷ l) = greatest (max g b) l ∙ ap (λ t. t && ascii l) (greater g b) ∙ and_assoc (ltb g 0x80) (ltb b 0x80) (ascii l)
+
+ascii_snoc : (l : List ℕ) (b : ℕ) → ascii (l ++ (b ∷ [])) ≡ (ascii l && ltb b 0x80)
+unfolding ascii
+ascii_snoc [] b = and-true (ltb b 0x80)
+ascii_snoc (x ∷ l) b = ap (λ t. ltb x 0x80 && t) (ascii_snoc l b) ∙ sym (and_assoc (ltb x 0x80) (ascii l) (ltb b 0x80))
+
+-- One more byte of a block.
+pub block_more : (s : List ℕ) (at i : ℕ) (t : Bool) → at + i < length s → ascii (take i (drop at s)) ≡ t
+    → ascii (take (i + 1) (drop at s)) ≡ (t && ltb (get_or s (at + i) 0) 0x80)
+block_more s at i t h e =
+    let k : i < length (drop at s) = omega (arith, length-drop at s) in
+    rw (add-one, take-suc (drop at s) i 0 k, ascii_snoc, get_or-drop, e)
 
 -- A list whose beginning is ASCII: the run goes on behind it.
 over : (x r : List ℕ) (at : ℕ) → ascii x ≡ true → ascii_end at (x ++ r) ≡ ascii_end (at + length x) r

@@ -80,9 +80,10 @@ fn short_index(w: &[u8]) -> u8
     ensures { result ≡ word_index w.now }
 {
     let number = differences::number(1, w);
-    let entry = slot_entry(word_slot(number));
-    if entry % PLACE == number {
-        (entry / PLACE) as u8
+    let slot = word_slot(number);
+    // The entry is asked for in each place: kept, it becomes jumps.
+    if slot_entry(slot) % PLACE == number {
+        (slot_entry(slot) / PLACE) as u8
     } else {
         0
     }

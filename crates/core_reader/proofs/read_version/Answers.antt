@@ -6,8 +6,8 @@ use Rattle.core_reader.proofs.read_version.Goals as goal
 
 pub is_version-requires : goal.is_version-requires
 is_version-requires c = record {
-  major = inside_got _ _ _ (natural_inside c.args.input.format _ _ _ c.parse_natural.ensures) c.in_ok-major.was;
-  minor = inside_got _ _ _ (natural_inside c.args.input.format _ _ _ c.parse_natural-2.ensures) c.in_ok-minor.was;
+  major = inside_got _ _ _ (natural_inside c.args.input.now.format _ _ _ c.parse_natural.ensures) c.in_ok-major.was;
+  minor = inside_got _ _ _ (natural_inside c.args.input.now.format _ _ _ c.parse_natural-2.ensures) c.in_ok-minor.was;
 }
 
 pub returns-in_err-major : goal.returns-in_err-major

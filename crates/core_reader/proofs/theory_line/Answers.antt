@@ -9,7 +9,7 @@ use Rattle.core_reader.proofs.theory_line.Goals as goal
 
 pub is_theory-requires : goal.is_theory-requires
 is_theory-requires c =
-    let a = names_got c.args.input.format _ _ _ c.parse_name.ensures _ _ c.in_ok-name.was 0 in
+    let a = names_got c.args.input.now.format _ _ _ c.parse_name.ensures _ _ c.in_ok-name.was 0 in
     record { order = a.order; high = omega (arith, a.inside, a.ahead.high) }
 
 pub returns-in_err-w : goal.returns-in_err-w

@@ -14,7 +14,7 @@ returns-in_err-label c =
     let a = c.args in
     let i = c.requires in
     let p = err_from_is_err_and c.from_residual.result c.from_residual.ensures.1 in
-    rw (p.1, p.2) (tt, λ l f g. refused_step a.input.bytes.now _ (setting_sound a.input.format a.input.bytes.now a.limit l) a.table.now a.work.now a.st (inside_within a.input.bytes.now a.work.now a.st i.term_inside l f g) _ i.no_value (c.begin_term.ensures i.term_inside.source) _ c.in_err-label.was)
+    rw (p.1, p.2) (tt, λ l f g. refused_step a.input.now.bytes.now _ (setting_sound a.input.now.format a.input.now.bytes.now a.limit l) a.table.now a.work.now a.st (inside_within a.input.now.bytes.now a.work.now a.st i.term_inside l f g) _ i.no_value (c.begin_term.ensures i.term_inside.source) _ c.in_err-label.was)
 
 pub returns-then-st-lt-FRAMES : goal.returns-then-st-lt-FRAMES
 returns-then-st-lt-FRAMES c =
@@ -23,7 +23,7 @@ returns-then-st-lt-FRAMES c =
     let d = c.max.ensures in
     let k = c.open_frame in (
       (omega (arith, d), omega (arith, d, c.if-st-lt-FRAMES.true, i.term_inside.deepest)),
-      λ l f g. open_step a.input.bytes.now _ (setting_sound a.input.format a.input.bytes.now a.limit l) a.table.now a.work.now a.st (inside_within a.input.bytes.now a.work.now a.st i.term_inside l f g) _ i.no_value (c.begin_term.ensures i.term_inside.source) _ _ _ _ (c.in_ok-label.was ∙ ap Ok c.in-Frame.is) d k.ensures k.auto.work,
+      λ l f g. open_step a.input.now.bytes.now _ (setting_sound a.input.now.format a.input.now.bytes.now a.limit l) a.table.now a.work.now a.st (inside_within a.input.now.bytes.now a.work.now a.st i.term_inside l f g) _ i.no_value (c.begin_term.ensures i.term_inside.source) _ _ _ _ (c.in_ok-label.was ∙ ap Ok c.in-Frame.is) d k.ensures k.auto.work,
     )
 
 pub returns-in-Leaf : goal.returns-in-Leaf
@@ -32,7 +32,7 @@ returns-in-Leaf c =
     let i = c.requires in
     let k = c.push_term in (
       pushed_bounded a.st a.limit _ _ _ _ i.term_inside.deepest k.ensures.value,
-      λ l f g. leaf_step a.input.bytes.now _ (setting_sound a.input.format a.input.bytes.now a.limit l) a.table.now a.work.now a.st (inside_within a.input.bytes.now a.work.now a.st i.term_inside l f g) _ i.no_value (c.begin_term.ensures i.term_inside.source) _ _ _ _ (c.in_ok-label.was ∙ ap Ok c.in-Leaf.is) k.ensures.value (k.ensures.table_after ∙ ap (pushed_row a.limit a.table.now a.st.rows) c.term_row-row.ensures),
+      λ l f g. leaf_step a.input.now.bytes.now _ (setting_sound a.input.now.format a.input.now.bytes.now a.limit l) a.table.now a.work.now a.st (inside_within a.input.now.bytes.now a.work.now a.st i.term_inside l f g) _ i.no_value (c.begin_term.ensures i.term_inside.source) _ _ _ _ (c.in_ok-label.was ∙ ap Ok c.in-Leaf.is) k.ensures.value (k.ensures.table_after ∙ ap (pushed_row a.limit a.table.now a.st.rows) c.term_row-row.ensures),
     )
 
 pub returns-else-st-lt-FRAMES : goal.returns-else-st-lt-FRAMES
@@ -40,5 +40,5 @@ returns-else-st-lt-FRAMES c =
     let a = c.args in
     let i = c.requires in (
       tt,
-      λ l f g. deep_step a.input.bytes.now _ (setting_sound a.input.format a.input.bytes.now a.limit l) a.table.now a.work.now a.st (inside_within a.input.bytes.now a.work.now a.st i.term_inside l f g) _ i.no_value (c.begin_term.ensures i.term_inside.source) _ _ (c.in_ok-label.was ∙ ap Ok c.in-Frame.is) (omega (arith, c.if-st-lt-FRAMES.false, i.term_inside.depth, i.term_inside.deepest, f, g)) ∙ ap refused (sym c.nowhere.ensures),
+      λ l f g. deep_step a.input.now.bytes.now _ (setting_sound a.input.now.format a.input.now.bytes.now a.limit l) a.table.now a.work.now a.st (inside_within a.input.now.bytes.now a.work.now a.st i.term_inside l f g) _ i.no_value (c.begin_term.ensures i.term_inside.source) _ _ (c.in_ok-label.was ∙ ap Ok c.in-Frame.is) (omega (arith, c.if-st-lt-FRAMES.false, i.term_inside.depth, i.term_inside.deepest, f, g)) ∙ ap refused (sym c.nowhere.ensures),
     )

@@ -13,12 +13,12 @@ pub returns-in_err-t : goal.returns-in_err-t
 returns-in_err-t g c =
     let a = c.args in
     let p = err_from_is_err_and c.from_residual.result c.from_residual.ensures.1 in
-    rw (p.1, p.2) (record { steps = λ w few. next_refused a.input.format a.input.bytes.now a.limits.rows a.at a.rows (a.limits.declarations - a.k) c.next_token.result c.next_token.ensures _ c.in_err-t.was; has_room = tt })
+    rw (p.1, p.2) (record { steps = λ w few. next_refused a.input.now.format a.input.now.bytes.now a.limits.rows a.at a.rows (a.limits.declarations - a.k) c.next_token.result c.next_token.ensures _ c.in_err-t.was; has_room = tt })
 
 pub returns-then-limits-k : goal.returns-then-limits-k
 returns-then-limits-k g c =
     let a = c.args in record {
-      steps = λ w few. next_full a.input.format a.input.bytes.now a.limits.rows a.at a.rows (a.limits.declarations - a.k) c.next_token.result c.next_token.ensures
+      steps = λ w few. next_full a.input.now.format a.input.now.bytes.now a.limits.rows a.at a.rows (a.limits.declarations - a.k) c.next_token.result c.next_token.ensures
           c.in_ok-t.t c.in_ok-t.was (same_true the_type _ _ _ (sym c.if-eq.ensures)) (omega arith) _ c.nowhere.ensures;
       has_room = tt;
     }
@@ -28,7 +28,7 @@ returns-in_err-declaration g c =
     let a = c.args in
     let p = err_from_is_err_and c.from_residual-in_err-declaration.result c.from_residual-in_err-declaration.ensures.1 in
     rw (p.1, p.2) (record {
-      steps = λ w few. declared_step a.input.format a.limits a.input.bytes.now a.table.now a.list.now a.at a.rows a.k a.work.now c.read_declaration.new.work w (omega arith)
+      steps = λ w few. declared_step a.input.now.format a.limits a.input.now.bytes.now a.table.now a.list.now a.at a.rows a.k a.work.now c.read_declaration.new.work w (omega arith)
           c.next_token.result c.next_token.ensures c.in_ok-t.t c.in_ok-t.was (same_true the_type _ _ _ (sym c.if-eq.ensures))
           c.read_declaration.result c.read_declaration.new.table c.read_declaration.new.list
           c.read_declaration.auto.table c.read_declaration.auto.list c.read_declaration.auto.work c.read_declaration.ensures _ (ap as_step (sym c.in_err-declaration.was));
@@ -38,7 +38,7 @@ returns-in_err-declaration g c =
 pub returns-then-eq : goal.returns-then-eq
 returns-then-eq g c =
     let a = c.args in record {
-      steps = λ w few. declared_step a.input.format a.limits a.input.bytes.now a.table.now a.list.now a.at a.rows a.k a.work.now c.read_declaration.new.work w (omega arith)
+      steps = λ w few. declared_step a.input.now.format a.limits a.input.now.bytes.now a.table.now a.list.now a.at a.rows a.k a.work.now c.read_declaration.new.work w (omega arith)
           c.next_token.result c.next_token.ensures c.in_ok-t.t c.in_ok-t.was (same_true the_type _ _ _ (sym c.if-eq.ensures))
           c.read_declaration.result c.read_declaration.new.table c.read_declaration.new.list
           c.read_declaration.auto.table c.read_declaration.auto.list c.read_declaration.auto.work c.read_declaration.ensures _ (ap as_step (sym c.in_ok-declaration.was));
@@ -48,7 +48,7 @@ returns-then-eq g c =
 pub returns-then-is_ending : goal.returns-then-is_ending
 returns-then-is_ending g c =
     let a = c.args in record {
-      steps = λ w few. ends_here a.input.format a.limits a.input.bytes.now a.table.now a.list.now a.at a.rows a.k c.next_token.result c.next_token.ensures
+      steps = λ w few. ends_here a.input.now.format a.limits a.input.now.bytes.now a.table.now a.list.now a.at a.rows a.k c.next_token.result c.next_token.ensures
           c.in_ok-t.t c.in_ok-t.was (same_false the_type _ _ (sym c.if-eq.ensures)) (sym c.is_ending.ensures ∙ c.if-is_ending.true);
       has_room = tt;
     }
@@ -56,7 +56,7 @@ returns-then-is_ending g c =
 pub returns : goal.returns
 returns g c =
     let a = c.args in record {
-      steps = λ w few. next_other a.input.format a.input.bytes.now a.limits.rows a.at a.rows (a.limits.declarations - a.k) c.next_token.result c.next_token.ensures
+      steps = λ w few. next_other a.input.now.format a.input.now.bytes.now a.limits.rows a.at a.rows (a.limits.declarations - a.k) c.next_token.result c.next_token.ensures
           c.in_ok-t.t c.in_ok-t.was (same_false the_type _ _ (sym c.if-eq.ensures)) (sym c.is_ending.ensures ∙ c.if-is_ending.false) _ c.at.ensures;
       has_room = tt;
     }

@@ -1,13 +1,21 @@
 -- `text::put` meets its contract.
-use Rattle.std.proofs.Common.{◌∙◌, arith}
+use Rattle.std.proofs.Common.{ℕ, ◌∙◌, sym, ap, arith}
+use native.Mathlib.Nat.{add-zero}
+use lib.Seq.{sets}
 use Rattle.text.proofs.Putting.{put_start, put_more, put_all}
+use Rattle.text.proofs.Writing.{sets_out}
 use Rattle.text.proofs.put.Goals as goal
+
+pub returns-then-out-at : goal.returns-then-out-at
+returns-then-out-at c =
+    let a = c.args in
+    record { out_after = sym (sets_out a.bytes.now a.out.now a.at (omega arith)); value = omega arith }
 
 pub loop-byte-init : goal.loop-byte-init
 loop-byte-init c =
     let a = c.args in
     let s = put_start a.out.now a.at a.bytes.now in
-    (s.0, c.min-behind.ensures ∙ s.1, s.2, s.3)
+    (ap (λ (k : ℕ). sets a.out.now k a.bytes.now) (sym (add-zero a.at)), omega (arith, c.if-out-at.false), s.2, s.3)
 
 pub loop-byte-preserved : goal.loop-byte-preserved
 loop-byte-preserved c =

@@ -9,4 +9,4 @@ unfolding text_edition
 returns-in-Core01 c = tokens_by _ Format.Core01 c.in-Core01.is _ _ _ c.next_core_token.ensures
 
 pub returns-in_default : goal.returns-in_default
-returns-in_default c = lexes c.args.self.format c.in_default.not-Core01 _ _ _ c.next_token_by.ensures
+returns-in_default c = lexes c.args.self.now.format c.in_default.not-Core01 _ _ _ c.next_token_by.ensures

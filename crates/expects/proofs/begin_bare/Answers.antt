@@ -1,4 +1,4 @@
--- `Input::begin_bare` meets its contract.
+-- `expects::begin_bare` meets its contract.
 use mathlib.Core.Path.{◌≡◌, sym, ap, ◌∙◌}
 use Rattle.std.proofs.lemmas.Option.{none-some, same_Some}
 use Rattle.surface.specs.Text.{text}
@@ -7,12 +7,12 @@ use Rattle.expects.specs.declared.FormOfWord.{FormOfWord}
 use Rattle.expects.specs.FormOfWord.{told_form}
 use Rattle.expects.proofs.Formats.{alone_in}
 use Rattle.expects.proofs.Terms.{bare_leaf, bare_refused}
-use Rattle.expects.proofs.Input.begin_bare.Goals.{After-surface_form}
-use Rattle.expects.proofs.Input.begin_bare.Goals as goal
+use Rattle.expects.proofs.begin_bare.Goals.{After-surface_form}
+use Rattle.expects.proofs.begin_bare.Goals as goal
 
 -- The form of the word in a source of surface 0 1.
-told : (c : After-surface_form) → c.surface_form.result ≡ told_form (form_of_word (text c.args.self.bytes.now c.args.t) forms)
-told c = c.surface_form.ensures ∙ ap (λ w. told_form (form_of_word w forms)) c.text.ensures
+told : (c : After-surface_form) → c.surface_form.result ≡ told_form (form_of_word (text c.args.s.now c.args.t) forms)
+told c = c.surface_form.ensures
 
 pub returns-in_default : goal.returns-in_default
 returns-in_default c = λ f.
