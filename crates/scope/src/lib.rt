@@ -87,11 +87,12 @@ fn find_local(s: &[u8], work: &[u32], depth: usize, start: u32, length: u32) -> 
     ensures { found_of result ≡ lookup (part s.now start length) (in_scope s.now work.now depth) }
 {
     let x = atom(s, start, length);
-    for d in (0..depth).rev() {
+    for count in 0..depth {
+        let d = depth - count - 1;
         let n = work[d * 2 + 1];
         if x.len() <= n as usize && is_name(s, work[d * 2], n, x) && work[KINDS + d] != ARROW {
             return Some(FoundLocal {
-                count: (depth - 1 - d) as u32,
+                count: count as u32,
                 row: work[ROWS + d],
             });
         }

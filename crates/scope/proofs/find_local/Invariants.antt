@@ -4,5 +4,5 @@ use Rattle.scope.specs.Scope.{in_scope}
 use Rattle.scope.proofs.Locals.{Passed}
 use Rattle.scope.proofs.find_local.Given as goal
 
-abbrev pub invariant-loop-d : goal.invariant-loop-d
-invariant-loop-d l = Passed l.x (in_scope l.s l.work l.depth) (l.depth - l.d) (in_scope l.s l.work l.d)
+abbrev pub invariant-loop-count : goal.invariant-loop-count
+invariant-loop-count l = Passed l.x (in_scope l.s l.work l.depth) l.count (in_scope l.s l.work (l.depth - l.count))
